@@ -2,10 +2,9 @@
 """Compares `linx_sim check` and the laws of bench/model/laws.py on legal texts and on spoiled ones.
 
 The legal ones are the texts of examples/ and examples/races, in threads, in the fixed order and in
-those of some numbers, and of random scripts. Each must be legal, without links by both: the laws
-there speak of no links, so of runs over links nothing else is judged. Then COUNT
-texts are spoiled in each of the kinds of spoiled_steps.py, spoiled_calls.py and spoiled_lines.py.
-Both must say the same of them: legal, or the first step that isn't with the first law that it
+those of some numbers, and of random scripts. Each must be legal by both. Then COUNT texts of runs
+without links, and as many of runs over links, are spoiled in each of the kinds of
+spoiled_steps.py, spoiled_calls.py, spoiled_links.py and spoiled_lines.py. Both must say the same of them: legal, or the first step that isn't with the first law that it
 breaks, or the first bad line, or the first line of the logs that their steps don't tell. A spoiled
 text may be legal still where its kind has a sentence that says why. Then `linx_sim replay` must
 call it no run of its script, unless it is the text of another one, by bench/model in the order of
@@ -27,6 +26,7 @@ import laws
 import random_script
 from lines import first_bad_line
 from script import parse
+import spoiled_links  # pylint: disable=unused-import
 from spoiled_lines import LINE_KINDS, SCRIPT_KINDS
 from spoiled_steps import KINDS, Run
 from texts import steps_of
@@ -145,14 +145,11 @@ def said(line):
 
 
 def wanted(script, text):
-    """How a check of a text behind a script must end; None where the laws don't say it."""
+    """How a check of a text behind a script must end."""
     bad = first_bad_line(script.encode("latin-1"))
     if bad is not None:
         return 2, re.compile(rb"linx_sim: script line %d: " % bad + judge.REASON + rb"\n"), b""
-    parsed = parse(script)
-    if parsed.links:
-        return None
-    verdict = laws.verdict(laws.shape_of(parsed), text)
+    verdict = laws.verdict(laws.shape_of(parse(script)), text)
     if verdict.kind == "legal":
         return 0, b"", b"legal %d\n" % verdict.at
     if verdict.kind == "illegal":
@@ -208,8 +205,8 @@ def fault_of(program, tally, run, script, text):
     tally.judged += 1
     tally.statuses[name_of(end)] += 1
     right = wanted(script, text)
-    fault = right and judge.difference(end, right)
-    if fault or end[0] != 0 or right is None:
+    fault = judge.difference(end, right)
+    if fault or end[0] != 0:
         return fault
     tally.legal += 1
     what, may_be = replayed(program, run, script, text)
@@ -254,7 +251,7 @@ def judged_legal(program, runs):
         fault = judge.difference(end, legal)
         if fault:
             yield f"{name}: {fault}:\n{script}text\n{text}"
-        elif wanted(script, text) not in (legal, None):
+        elif wanted(script, text) != legal:
             yield f"{name}: is {wanted(script, text)} by the laws:\n{script}text\n{text}"
 
 
@@ -282,21 +279,23 @@ def main():
     arguments.add_program(parser)
     given = parser.parse_args()
     program = arguments.found_program(parser, given)
-    runs = list(legal_runs(program, given.runs))
-    faults = list(judged_legal(program, runs))
-    print(f"{len(runs) - len(faults)} of {len(runs)} runs are legal by both")
-    linked = list(legal_runs(program, given.runs, linked=True))
-    over_links = list(judged_legal(program, linked))
-    print(f"{len(linked) - len(over_links)} of {len(linked)} runs over links are legal")
-    faults += over_links
-    faults += filter(None, judged_rows(program))
-    pool, tallies = list(pooled(runs)), []
-    for kind in [*KINDS, *LINE_KINDS, *SCRIPT_KINDS]:
-        tally, wrong = tried(program, kind, pool, given.count)
-        tallies.append(tally)
+    faults, pools, tallies = [], [], []
+    for linked in (False, True):
+        runs = list(legal_runs(program, given.runs, linked))
+        wrong = list(judged_legal(program, runs))
+        print(f"{len(runs) - len(wrong)} of {len(runs)} runs "
+              f"{'over' if linked else 'without'} links are legal by both", flush=True)
         faults += wrong
-        print(tally.line(), flush=True)
-    print(f"{sum(tally.judged for tally in tallies)} spoiled texts of {len(tallies)} kinds, "
+        pools.append(list(pooled(runs)))
+    faults += filter(None, judged_rows(program))
+    for pool, where in zip(pools, ("without", "over")):
+        print(f"of runs {where} links:")
+        for kind in [*KINDS, *LINE_KINDS, *SCRIPT_KINDS]:
+            tally, wrong = tried(program, kind, pool, given.count)
+            tallies.append(tally)
+            faults += wrong
+            print(tally.line(), flush=True)
+    print(f"{sum(tally.judged for tally in tallies)} spoiled texts of {len(tallies) // 2} kinds, "
           f"{sum(tally.legal for tally in tallies)} legal still; {len(faults)} faults")
     if faults:
         print(f"first fault: {faults[0]}")

@@ -115,3 +115,17 @@ def wrong_in_threads(script, end):
     except Refused as reason:
         return str(reason)
     return None if text.encode() == end[2] else "its text isn't the model's in this order"
+
+
+def wrong_when_judged(program, script, end, seconds):
+    """What the program's words `check` and `replay` find wrong with the text of a run, or None."""
+    status, _, text = end
+    if status != 0:
+        return None
+    steps = len(makers_of(text.decode("ascii", "replace")))
+    for word, said in ("check", "legal"), ("replay", "same"):
+        judged = ended([program, word], script + b"text\n" + text, seconds)
+        wrong = difference(judged, (0, b"", b"%s %d\n" % (said.encode(), steps)))
+        if wrong:
+            return f"{word}: {wrong}"
+    return None

@@ -1,4 +1,4 @@
-"""Spoils the steps of printed texts of runs without links by what a call asks of several of them.
+"""Spoils the steps of printed texts of runs by what a call asks of several of them.
 
 The kinds are those of spoiled_steps.py.
 """
@@ -78,7 +78,8 @@ def receive_instead(name, before, after, why=None):
 
 receive_instead("none in place of a take", "take", "none")
 receive_instead("waits in place of a take", "take", "waits")
-receive_instead("none in place of a wait", "waits", "none")
+receive_instead("none in place of a wait", "waits", "none",
+                "its maker is at rest there, and every link is still")
 receive_instead("waits in place of a none", "none", "waits",
                 "its maker finds nothing, and doesn't wait already")
 receive_instead("take in place of a none", "none", "take")
@@ -130,8 +131,8 @@ def wait_again(chance, run):
 def ending(run, at, maker):
     """The end of an actor at a place, with its effects there."""
     history = history_before(run, at)
-    if not 1 <= int(maker[1:]) <= len(run.shape.actors):
-        return None
+    if maker[0] == "P":
+        return Step(maker, ["ended"], [])
     judged = laws.Judged(run.shape, history, Step(maker, ("ended",), []))
     effects = laws.effects_by(history, judged.node(), judged.me, ("ended",))
     return Step(maker, ["ended"], [printed(effect) for effect in effects])
@@ -437,7 +438,7 @@ def finds_none(name, why, standing):
     those that stand so, of which there is one."""
     @kind(name, why)
     def spoil(chance, run):
-        history, found = laws.History(), []
+        history, found = laws.History(run.shape), []
         for at, step in enumerate(laws.told_of(run.steps), 1):
             history.add(step)
             for maker in history.endpoints:

@@ -1,4 +1,4 @@
-"""Spoils the lines of printed texts of runs without links, and the scripts before them.
+"""Spoils the lines of printed texts of runs, and the scripts before them.
 
 The kinds are those of spoiled_steps.py, but that their functions give a whole text, or a script and
 a text, or None where the run has nothing to spoil so.
@@ -28,6 +28,10 @@ BAD_WORDS = {
                  "@1.1", "1,1"],
     "@N": ["5", "@", "@01", "@18446744073709551616", "@-1", "@1.1", "#1"],
     "NODE": ["nobody", "?", "1", "N1"],
+    "LINK": ["nolink", "?", "1", "L1"],
+    "SESSION": ["1", "1.01", "01.1", "4294967296.1", "1.4294967296", "1.1.1", "1:1"],
+    "DIRECTION": ["-", "<<", "to", "first"],
+    "VERDICT": ["delivered", "swap0", "swap10", "swap", "Lose"],
     "SENT": ["pending", "Queued", "none", "sent"],
     "DETACHED": ["dead", "Pending", "queue"],
     "REASON": ["gone", "Closed", "0", "2"],
@@ -171,9 +175,9 @@ def bad_maker(chance, run):
     return cut(run.text)[0] + laws.steps_text(steps)
 
 
-@line_kind("a step of a link")
+@line_kind("a step of a link", "the script has this link, and the step brings nothing")
 def link_step(chance, run):
-    """A head that names a link, which the script has not."""
+    """A head that names a link."""
     steps = copied(run.steps)
     at = chance.randrange(len(steps))
     steps[at] = steps[at]._replace(head=chance.choice(LINK_HEADS).split(" "))
@@ -200,7 +204,7 @@ def add_altered_kind(name, times):
     """A kind in which lines are altered as read_back.py does."""
     @line_kind(name, "a word was altered that no law and no log looks at")
     def spoil(chance, run):
-        maker = read_back.Maker(chance.getrandbits(32), [(run.shape.nodes, [], run.text)])
+        maker = read_back.Maker(chance.getrandbits(32), [(run.shape.nodes, [link.name for link in run.shape.links], run.text)])
         lines = run.text.split("\n")[:-1]
         for _ in range(times):
             if lines:
@@ -476,7 +480,7 @@ def good_order(_chance, front, _actors):
 def with_link(_chance, front, _actors):
     """A link to a node of its own."""
     node = next(line.split()[1] for line in front if line.split()[:1] == ["node"])
-    front += ["node far", f"link l {node} far"]
+    front += ["node far", f"link more {node} far"]
 
 
 add_script_kind("an actor less in the script", "it made no step", actor_gone)
@@ -494,4 +498,5 @@ add_script_kind("a node more in the script", "nothing happens on it", node_more)
 add_script_kind("a bad line in the script", None, bad_line)
 add_script_kind("a bad line `order` in the script", None, bad_order)
 add_script_kind("a line `order` in the script", "an order isn't looked at", good_order)
-add_script_kind("a link in the script", None, with_link)
+add_script_kind("a link more in the script", "no receive finds none, and nothing comes over it",
+                with_link)

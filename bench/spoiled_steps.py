@@ -1,4 +1,4 @@
-"""Spoils the steps of printed texts of runs without links: each field, head and effect by itself.
+"""Spoils the steps of printed texts of runs: each field, head and effect by itself.
 
 A kind of spoiling has a name, and, where what it makes may still be legal, the sentence that says
 why. Its function is given a source of chance and a run, and gives the steps of the spoiled text,
@@ -8,10 +8,10 @@ more kinds.
 from typing import NamedTuple
 
 import laws
+from link_laws import Peer, over_link
 from texts import Reader, Step
 
-HEADS = [row for row in Reader.HEADS if "LINK" not in row]
-EFFECTS = Reader.EFFECTS[:5]
+HEADS, EFFECTS = Reader.HEADS, Reader.EFFECTS
 HEAD_WORDS = [row.split(" ")[0] for row in HEADS]
 EFFECT_WORDS = [row.split(" ")[0] for row in EFFECTS]
 ZEROS = "0" * 64
@@ -26,6 +26,10 @@ OTHERS = {
     "POSITION": ["0.0", "1.0", "1.1", "1.2", "9.1", "999.1"],
     "@N": ["@0", "@1", "@2", "@999"],
     "NODE": [],
+    "LINK": [],
+    "SESSION": ["1.1", "1.2", "2.1", "0.0", "4294967295.4294967295"],
+    "DIRECTION": ["<", ">"],
+    "VERDICT": ["deliver", "lose", "repeat", "swap1", "swap9"],
     "SENT": ["queued", "link", "dead"],
     "DETACHED": ["pending", "queued", "none"],
     "REASON": ["closed", "lost", "dead"],
@@ -80,7 +84,7 @@ def effect_places(run, word):
 
 def history_before(run, at):
     """What the steps before this place leave."""
-    history = laws.History()
+    history = laws.History(run.shape)
     for step in list(laws.told_of(run.steps))[:at]:
         history.add(step)
     return history
@@ -141,11 +145,30 @@ def data_beside(word):
                      if 32 < more <= 65_532]
 
 
+def peers_beside(chance, run, word):
+    """Peers over a link that are almost the one that a word spells, or some of the links."""
+    if not run.shape.links:
+        return []
+    peer = over_link(word) or Peer(chance.choice(run.shape.links).name, "1.1", word or "1.1")
+    return [peer.word(), peer.inc,
+            peer._replace(link=chance.choice(run.shape.links).name).word(),
+            peer._replace(session=chance.choice(OTHERS["SESSION"])).word(),
+            peer._replace(inc=chance.choice(values_of(run, "INC") or ["1.1"])).word()]
+
+
 def other(chance, run, field, word):
     """Another word of a field."""
+    links = [link.name for link in run.shape.links]
     choices = OTHERS[field] + values_of(run, field)
     if field == "NODE":
         choices += run.shape.nodes
+    if field == "LINK":
+        choices += links
+    if field == "PATH" and links:
+        name = chance.choice(values_of(run, "NAME") or ["a"])
+        choices += [name, f"{chance.choice(links)}/{name}"]
+    if field == "PEER" and chance.random() < 0.5:
+        choices = peers_beside(chance, run, word) or choices
     if field == "DATA" and chance.random() < 0.5:
         choices = data_beside(word)
     if field in ("INC", "PEER"):
@@ -158,6 +181,7 @@ def other_maker(chance, run, maker):
     """Another maker, most often one of the script."""
     count = len(run.shape.actors)
     others = [new for k in range(1, count + 1) if (new := f"A{k}") != maker]
+    others += [f"P{k}" for k in range(1, len(run.shape.links) + 1) if f"P{k}" != maker]
     if others and chance.random() < 0.8:
         return chance.choice(others)
     return chance.choice(["A0", f"A{count + 1}", "P1", "P0"])
@@ -181,6 +205,15 @@ FIELD_WHYS = {
     "attach DATA": "the attach is told nothing, or its long data stand for others as long",
     "detach @N": "neither attach is there, or both are owed or told alike",
     "restart NODE": "neither node has an open endpoint",
+    "cut LINK": "no packet of either link comes before its next cut or mend",
+    "mend LINK": "no packet of the one link comes before its next cut or mend, or neither was cut",
+    "settle LINK": "no law looks at what is settled but for the link",
+    "wire LINK": "the packet brings nothing",
+    "wire DIRECTION": "the packet brings nothing",
+    "wire VERDICT": "the packet brings nothing, or is handed over with both verdicts",
+    "tick LINK": "the tick ends no session, and no tick behind leans on it",
+    "tick DIRECTION": "the tick ends no session, and no tick behind leans on it",
+    "up SESSION": "the other side had this session, too, and no packet behind leans on it",
     "refused REFUSAL": "the laws of a step leave open why an actor is refused",
     "notified DATA": "a digest tells nothing of its attach's data, but how many they are",
 }
@@ -275,8 +308,12 @@ add_head_kind("more", "such a step is legal there, and no step behind is another
 
 # Each effect.
 
-def add_effect_kind(name, spoil_at, effect_words=EFFECT_WORDS):
-    """A kind for each effect, by a function of a place where it stands."""
+PACKETS = ("arrived", "met", "gone", "up", "down")
+NO_PACKET = [word for word in EFFECT_WORDS if word not in PACKETS]
+
+
+def add_effect_kind(name, spoil_at, effect_words=EFFECT_WORDS, why=None):
+    """A kind for each of these effects, by a function of a place where it stands."""
     for word in effect_words:
         def spoil(chance, run, word=word):
             found = effect_places(run, word)
@@ -284,7 +321,7 @@ def add_effect_kind(name, spoil_at, effect_words=EFFECT_WORDS):
                 return None
             steps = copied(run.steps)
             return steps if spoil_at(chance, run, steps, *chance.choice(found)) else None
-        kind(f"effect {word} {name}", None)(spoil)
+        kind(f"effect {word} {name}", why)(spoil)
 
 
 def drop_effect(_chance, _run, steps, at, place):
@@ -328,10 +365,16 @@ def borrow_effect(chance, _run, steps, at, place):
     return True
 
 
-add_effect_kind("is gone", drop_effect)
+LEANT = "a packet brought it, and no step behind leans on it"
+MOVED = "a packet brought it, and another one may bring it there"
+add_effect_kind("is gone", drop_effect, NO_PACKET)
+add_effect_kind("is gone", drop_effect, PACKETS, LEANT)
 add_effect_kind("twice", double_effect)
-add_effect_kind("of the step before", move_effect(-1))
-add_effect_kind("of the step behind", move_effect(1))
+add_effect_kind("of the step before", move_effect(-1), NO_PACKET)
+add_effect_kind("of the step before", move_effect(-1), PACKETS, MOVED)
+add_effect_kind("of the step behind", move_effect(1), NO_PACKET)
+add_effect_kind("of the step behind", move_effect(1), PACKETS, MOVED)
 add_effect_kind("in another order", exchange_effects,
-                [word for word in EFFECT_WORDS if word != "arrived"])
-add_effect_kind("of another step, too", borrow_effect)
+                [word for word in EFFECT_WORDS if word not in ("arrived", "up")])
+add_effect_kind("of another step, too", borrow_effect, NO_PACKET)
+add_effect_kind("of another step, too", borrow_effect, PACKETS, MOVED)

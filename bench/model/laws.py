@@ -1,8 +1,8 @@
-"""The laws of LINX on a printed text: whether it is that of a legal run of a script without links.
+"""The laws of LINX on a printed text: whether it is that of a legal run of a script.
 
 Each law and each part of a history is written from the definition of its name, which
 docs/audit/definitions.md lists: those in crates/journal/specs, crates/link_laws/specs/Laws.antt
-and crates/journal_check/specs/Faults.antt. The text is read by docs/use/text.md, and of long data
+and crates/journal_check/specs/Faults.antt; those of links stand in link_laws.py. The text is read by docs/use/text.md, and of long data
 stands what the words `stand_in`, `shown_of` and `told_of` say. A value is the word that spells it,
 but for data. Nothing is known here of how the program does it.
 """
@@ -11,6 +11,8 @@ import functools
 import hashlib
 from typing import NamedTuple
 
+import link_laws
+from link_laws import node_of, over_link
 from texts import Reader, Step, steps_of
 
 DATA_LIMIT, SHOWN_MOST, NOTED_LIMIT = 65_532, 32, 268_435_456
@@ -23,6 +25,10 @@ RULES = {
     "sends": "a signal is answered dead exactly where its peer is not alive",
     "receives": "a receive takes the earliest item that its filter selects, or finds none at rest",
     "links": "the link is one that there is",
+    "rest": "a receive finds none only where every link is still",
+    "packets": "a packet brings one thing, with exactly its effects, and only what may come",
+    "cuts": "while a link is cut, its packets are lost",
+    "ticks": "a tick does nothing, or ends a session whose side heard nothing for two ticks",
 }
 OF_ENDPOINT = ("close", "send", "take", "none", "waits", "hunt", "attach", "detach")
 OF_LINK = ("cut", "mend", "settle", "wire", "tick")
@@ -30,16 +36,24 @@ SIGNAL_AT = {"send": 2, "hunt": 2, "attach": 2, "arrived": 3, "found": 3, "notif
 
 
 class Shape(NamedTuple):
-    """What a run is laid out on: the names of its nodes, and the number of each actor's node."""
+    """What a run is laid out on: the names of its nodes, the number of each actor's node, and its
+    links."""
 
     nodes: list
     actors: list
+    links: list = []
+
+    def link(self, name):
+        """A link by its name."""
+        return next(link for link in self.links if link.name == name)
 
 
 def shape_of(script):
     """The shape of a parsed script."""
-    return Shape(script.nodes, [str(script.nodes.index(actor.node) + 1)
-                                for actor in script.actors])
+    def number(node):
+        return str(script.nodes.index(node) + 1)
+    return Shape(script.nodes, [number(actor.node) for actor in script.actors],
+                 [link_laws.Link(link.name, *map(number, link.nodes)) for link in script.links])
 
 
 class Verdict(NamedTuple):
@@ -151,11 +165,6 @@ class Attach(NamedTuple):
     reference: str
 
 
-def node_of(inc):
-    """The node that an incarnation was opened on."""
-    return inc.partition(".")[0]
-
-
 def incs_in(kind, effects):
     """The incarnations of the effects of a kind: opened or closed."""
     return [effect[1] for effect in effects if effect[0] == kind]
@@ -168,9 +177,10 @@ def selects(selected, number):
 
 
 class History:
-    """What the steps so far leave, each of which was legal."""
+    """What the steps so far leave on a shape, each of which was legal."""
 
-    def __init__(self):
+    def __init__(self, shape):
+        self.of_links = link_laws.LinkHistory(shape.links, shape.nodes)
         self.count = 0
         self.endpoints, self.waits, self.ended = {}, {}, set()
         self.open, self.opened, self.names = [], collections.Counter(), {}
@@ -181,6 +191,7 @@ class History:
         """A step more."""
         self.count += 1
         me = self.endpoints.get(step.maker)
+        self.of_links.add(me, step)
         self.add_to_queues(me, step)
         self.add_to_pending(me, step)
         opened, closed = incs_in("opened", step.effects), incs_in("closed", step.effects)
@@ -236,12 +247,28 @@ class History:
         return [attach for attach in self.attaches if node_of(attach.at) == node]
 
     def is_alive(self, node, peer):
-        """Whether a peer is an open endpoint of a node."""
+        """Whether a peer is an open endpoint of a node, or one over a link that it met and that
+        lives."""
+        if over_link(peer):
+            return self.of_links.is_living(node, peer)
         return peer in self.open_endpoints(node)
 
     def find(self, node, path):
-        """The first opened endpoint of a node that has this name and is open, or None."""
+        """The first opened endpoint of a node that has this name and is open, or the first peer of
+        the name that it met over the link and that lives, or None."""
+        link, mark, name = path.rpartition("/")
+        if mark:
+            return self.of_links.first_named(node, link, name)
         return next((inc for inc in self.open_endpoints(node) if self.names[inc] == path), None)
+
+    def founds(self, path, peer, node):
+        """What a found peer brings to the hunts of a node for its path."""
+        return founds(path, peer, self.hunting(node))
+
+    @staticmethod
+    def notice(reason, attach):
+        """The notification of an attach."""
+        return notice(reason, attach)
 
     def first_selected(self, selected, me):
         """The first item that a filter selects at an endpoint, or None."""
@@ -288,7 +315,7 @@ def effects_by(history, node, me, head):
     if head[0] in ("close", "ended") and me is not None:
         return [("closed", me), *(notice("closed", attach) for attach in history.owed(node)
                                   if attach.peer == me and attach.at != me)]
-    if head[0] == "send" and history.is_alive(node, head[1]):
+    if head[0] == "send" and not over_link(head[1]) and history.is_alive(node, head[1]):
         return [("arrived", head[1], me, head[2])]
     if head[0] == "hunt":
         peer = history.find(node, head[1])
@@ -314,9 +341,13 @@ class Judged:
         return self.shape.actors[int(self.maker[1:]) - 1]
 
     def makers(self):
-        """It is made by an actor of the script that hasn't ended: there is no link."""
-        return self.maker[0] == "A" and 1 <= int(self.maker[1:]) <= len(self.shape.actors) and (
-            self.maker not in self.history.ended)
+        """It is made by an actor of the script that hasn't ended, or by the pump of a link, which
+        makes only packets and ticks of that one."""
+        kind, number = self.maker[0], int(self.maker[1:])
+        if kind == "P":
+            return 1 <= number <= len(self.shape.links) and self.head[0] in ("wire", "tick") and (
+                self.head[1] == self.shape.links[number - 1].name)
+        return 1 <= number <= len(self.shape.actors) and self.maker not in self.history.ended
 
     def endpoints(self):
         """Who opens an endpoint has none, and the steps of an endpoint need one."""
@@ -336,7 +367,8 @@ class Judged:
             return True
         if self.head[0] == "restart":
             node = str(self.shape.nodes.index(self.head[1]) + 1)
-            wanted = [("closed", inc) for inc in self.history.open_endpoints(node)]
+            wanted = [*self.history.of_links.downs_of(node),
+                      *(("closed", inc) for inc in self.history.open_endpoints(node))]
         else:
             wanted = effects_by(self.history, self.node(), self.me, self.head)
         return self.effects_noted == wanted
@@ -345,8 +377,9 @@ class Judged:
         """A signal is answered by whether its peer is alive."""
         if self.head[0] != "send":
             return True
+        answer = "link" if over_link(self.head[1]) else "queued"
         return self.head[3] == (
-            "queued" if self.history.is_alive(self.node(), self.head[1]) else "dead")
+            answer if self.history.is_alive(self.node(), self.head[1]) else "dead")
 
     def receives(self):
         """A receive takes the earliest item, or finds none at rest, or waits; and a detach is
@@ -372,13 +405,39 @@ class Judged:
         return "queued" if any(item.notice_of == self.head[1] for item in queued) else "none"
 
     def links(self):
-        """No step is of a link: there is none."""
-        return self.head[0] not in OF_LINK
+        """What is said of a link is said of one that there is."""
+        return self.head[0] not in OF_LINK or (
+            self.head[1] in [link.name for link in self.shape.links])
+
+    def rest(self):
+        """A receive finds none only where every link is still."""
+        return self.head[0] != "none" or all(
+            link_laws.is_still(self.history, link) for link in self.shape.links)
+
+    def packets(self):
+        """A packet that is handed over brings one thing, and one that isn't brings nothing."""
+        if self.head[0] != "wire":
+            return True
+        _, name, direction, verdict = self.head
+        return link_laws.keeps_packets(self.history, self.shape.link(name), direction, verdict,
+                                       self.effects_noted)
+
+    def cuts(self):
+        """While a link is cut, its packets are lost."""
+        return self.head[0] != "wire" or self.head[3] == "lose" or (
+            self.head[1] not in self.history.of_links.cut)
+
+    def ticks(self):
+        """A tick does nothing, or ends a session whose side heard nothing for two ticks."""
+        if self.head[0] != "tick":
+            return True
+        return link_laws.keeps_ticks(self.history, self.shape.link(self.head[1]), self.head[2],
+                                     self.effects_noted)
 
 
 def first_fault(shape, steps):
     """The first step that isn't legal, with the first law that it breaks, or None."""
-    history = History()
+    history = History(shape)
     for step in told_of(steps):
         judged = Judged(shape, history, step)
         for law in RULES:
@@ -470,7 +529,7 @@ def first_full(text):
 
 def verdict(shape, text):
     """What is said of a text behind a script of this shape."""
-    bad = Reader(shape.nodes, []).first_bad(text)
+    bad = Reader(shape.nodes, [link.name for link in shape.links]).first_bad(text)
     good = "".join(line + "\n" for line in text.split("\n")[:bad - 1]) if bad else text
     full = first_full(good)
     if full or bad:

@@ -29,12 +29,11 @@ use Rattle.link_laws.specs.Sessions.{downs, own_session, paired_session}
 use Rattle.node_kernel.specs.Nodes.{NodeState, is_living, is_open}
 use Rattle.link_tables.specs.Arrivals.{count_in, counts_left}
 use Rattle.link_tables.specs.Marks.{is_closing_of, is_meeting_of, opened_as}
-use Rattle.link_tables.specs.Sent.{is_from, same_flow, sent_left}
+use Rattle.link_tables.specs.Sent.{flows_of, is_from, sent_left}
 use Rattle.link_tables.specs.Sides.{had_in, own_in, side_left, up_pair}
 use Rattle.link_tables.specs.declared.sent.Flow.{Flow}
-use Rattle.link_tables.specs.declared.sent.SentOver.{SentOver}
 use Rattle.link_tables.proofs.Arrived.{arrived-told}
-use Rattle.link_tables.proofs.Flows.{flow-is, flow-told}
+use Rattle.link_tables.proofs.Flows.{flow-told}
 use Rattle.link_tables.proofs.Had.{boots-earlier, had-told}
 use Rattle.link_tables.proofs.Marked.{closed-told, met-told, opened-told}
 use Rattle.link_tables.proofs.Named.{name-told}
@@ -47,7 +46,7 @@ use Rattle.link_check.specs.Orderly.{IsOrderly, TellsAlive}
 use Rattle.link_check.specs.Reading.{brought_by}
 use Rattle.link_check.proofs.Fronts.{all-behind, front-all, front-next, next-front}
 use Rattle.link_check.proofs.Ones.{none-filtered}
-use Rattle.link_check.proofs.Sendings.{among, each-all, noted-sent}
+use Rattle.link_check.proofs.Sendings.{among, each-all, noted-flow}
 use Rattle.link_check.proofs.Tests.{both, inc-is, inc-same, is-named, is-note, is-session, named-is}
 use Rattle.link_check.proofs.Tests.{note-is, session-is, session-up, up-session}
 
@@ -245,19 +244,15 @@ module _ (P : List Step) (node : NodeState) (at other : NodeNo) (l : LinkNo) (si
 
     -- a signal from a to b in session y is one that is looked at
     looked-at : (y : Session) (b : Inc) → is_alive P n (Here b) ≡ true
-        → (note : SigNote) → next_sent d x y a b ≡ Some note → (s : SentOver)
-        → same_flow (flow_of a l y b) s.flow ≡ true
-        → (is_from a l y s.flow && is_to_come d x s) ≡ true
-    looked-at y b open_ note is s same =
-        subst (λ (f : Flow). (is_from a l y f && (is_open node.endpoints f.peer
-        && is_some (next_sent d x f.session f.at f.peer))) ≡ true)
-        (flow-is (flow_of a l y b) s.flow same)
-        (both (is_from a l y (flow_of a l y b))
-        (is_open node.endpoints b && is_some (next_sent d x y a b))
+        → (note : SigNote) → next_sent d x y a b ≡ Some note
+        → (is_from a l y (flow_of a l y b) && is_to_come d x (flow_of a l y b)) ≡ true
+    looked-at y b open_ note is =
+        both (is_from a l y (flow_of a l y b))
+        (is_some (next_sent d x y a b) && is_open node.endpoints b)
         (both (same_inc a a) (l.0 == l.0 && y.0 == y.0) (inc-same a)
         (both (l.0 == l.0) (y.0 == y.0) (eq-eqb l.0 l.0 refl) (eq-eqb y.0 y.0 refl)))
-        (both (is_open node.endpoints b) (is_some (next_sent d x y a b)) (tells.here b ∙ open_)
-        (ap (λ (o : Option SigNote). is_some o) is)))
+        (both (is_some (next_sent d x y a b)) (is_open node.endpoints b)
+        (ap (λ (o : Option SigNote). is_some o) is) (tells.here b ∙ open_))
 
     got-of : (y : Session) → paired_session P n l.0 x ≡ Some y → is_due d x y a ≡ false
         → (b : Inc) → is_alive P n (Here b) ≡ true → HasGot y b
@@ -268,9 +263,9 @@ module _ (P : List Step) (node : NodeState) (at other : NodeNo) (l : LinkNo) (si
             front-all (came x a b) (sent y a b) (orderly.fronts x y up paired a b open_)
             (sym (next-same x y a b) ∙ is)
         go (Some note) is =
-            absurd (true≢false (sym (noted-sent (flow_of a l y b) (is_to_come d x)
-            (λ (s : SentOver). is_from a l y s.flow) (looked-at y b open_ note is)
-            (count_in arrived (flow_of b l x a)) note (sent_left P) is) ∙ none))
+            absurd (true≢false (sym (noted-flow (flow_of a l y b) (is_to_come d x) (is_from a l y)
+            (looked-at y b open_ note is) (count_in arrived (flow_of b l x a)) note (sent_left P)
+            is) ∙ none))
 
     all-got : (pair : Option Session) → paired_session P n l.0 x ≡ pair
         → all_came pair d x a ≡ true → AllGot pair
@@ -279,22 +274,21 @@ module _ (P : List Step) (node : NodeState) (at other : NodeNo) (l : LinkNo) (si
         each-all (HasGot y) (open_endpoints P n) (got-of y paired (not-true _ is))
 
     -- and where each has got all, none is due
-    came-of : (y : Session) → AllByRecursion (HasGot y) (open_endpoints P n) → (s : SentOver)
-        → is_from a l y s.flow ≡ true → is_to_come d x s ≡ true → ⊥
-    came-of y all s from due =
-        let halves = and_parts (same_inc a s.flow.at) (l.0 == s.flow.link.0
-        && y.0 == s.flow.session.0) from in
-        let others = and_parts (l.0 == s.flow.link.0) (y.0 == s.flow.session.0) halves.1 in
-        let parts = and_parts (is_open node.endpoints s.flow.peer)
-        (is_some (next_sent d x s.flow.session s.flow.at s.flow.peer)) due in
-        let b : Inc = s.flow.peer in
+    came-of : (y : Session) → AllByRecursion (HasGot y) (open_endpoints P n) → (f : Flow)
+        → is_from a l y f ≡ true → is_to_come d x f ≡ true → ⊥
+    came-of y all f from due =
+        let halves = and_parts (same_inc a f.at) (l.0 == f.link.0 && y.0 == f.session.0) from in
+        let others = and_parts (l.0 == f.link.0) (y.0 == f.session.0) halves.1 in
+        let parts = and_parts (is_some (next_sent d x f.session f.at f.peer))
+        (is_open node.endpoints f.peer) due in
+        let b : Inc = f.peer in
         let there : is_some (next_sent d x y a b) ≡ true =
         subst (λ (z : Session). is_some (next_sent d x z a b) ≡ true)
-        (sym (session-is y s.flow.session others.1))
-        (subst (λ (i : Inc). is_some (next_sent d x s.flow.session i b) ≡ true)
-        (sym (inc-is a s.flow.at halves.0)) parts.1) in
+        (sym (session-is y f.session others.1))
+        (subst (λ (i : Inc). is_some (next_sent d x f.session i b) ≡ true)
+        (sym (inc-is a f.at halves.0)) parts.0) in
         let got : HasGot y b =
-        among (HasGot y) b (open_endpoints P n) all (sym (tells.here b) ∙ parts.0) in
+        among (HasGot y) b (open_endpoints P n) all (sym (tells.here b) ∙ parts.1) in
         let none : next_sent d x y a b ≡ None =
         next-same x y a b ∙ ap (λ (notes : List SigNote). slice_get (sent y a b) (length notes)) got
         ∙ all-behind (sent y a b) in
@@ -303,8 +297,8 @@ module _ (P : List Step) (node : NodeState) (at other : NodeNo) (l : LinkNo) (si
     got-all : (pair : Option Session) → AllGot pair → all_came pair d x a ≡ true
     got-all None is = absurd is
     got-all (Some y) all =
-        ap not (none-filtered (is_to_come d x) (λ (s : SentOver). is_from a l y s.flow)
-        (sent_left P) (came-of y all))
+        ap not (none-filtered (is_to_come d x) (is_from a l y) (flows_of (sent_left P))
+        (came-of y all))
 
   parts-told : (x : Session) (a : Inc) → may_part d x a ≡ true → IsParting P n m l x a
   parts-told x a is =

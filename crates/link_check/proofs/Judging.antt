@@ -17,8 +17,7 @@ use Rattle.link_check.specs.Coming.{MayPass, MayTick}
 use Rattle.link_check.specs.Cuts.{loses_if_cut}
 use Rattle.link_check.specs.Judging.{BooksTellLaws, TellLinkLaws}
 use Rattle.link_check.specs.Links.{is_of_link}
-use Rattle.link_check.specs.Stillness.{is_still}
-use Rattle.link_check.specs.Told.{AreLeft, IsReady, all_still, ends_of, keeps_cuts}
+use Rattle.link_check.specs.Told.{AreLeft, IsReady, all_still, is_still_at, keeps_cuts}
 use Rattle.link_check.specs.Told.{keeps_rest, may_pass, may_tick}
 use Rattle.link_check.proofs.AtLinks.{there-of}
 use Rattle.link_check.proofs.Steps.{cuts-kept, kept-cuts, kept-links, links-kept}
@@ -44,21 +43,21 @@ module _ (shape : Shape) (P : List Step) (book : BookSoFar) (kernels : List Node
   number-is l k is = link-is l (record { 0 = k }) is
 
   each-still : (k : ℕ) → all_still book kernels k ≡ true → (l : LinkNo) → 0 < l.0 → l.0 ≤ k
-      → is_still (ends_of book kernels l) ≡ true
+      → is_still_at book kernels l ≡ true
   each-still zero is l above within = absurd (omega arith)
   each-still (suc k) is l above within =
       let parts = and_parts (all_still book kernels k)
-      (is_still (ends_of book kernels (record { 0 = suc k }))) is in
+      (is_still_at book kernels (record { 0 = suc k })) is in
       go parts.1 (λ less. each-still k parts.0 l above less) (l.0 == suc k) refl
     where
       lower : (l.0 ≡ suc k → ⊥) → l.0 ≤ k
       lower differs = omega (arith, differs)
 
-      go : is_still (ends_of book kernels (record { 0 = suc k })) ≡ true
-          → (l.0 ≤ k → is_still (ends_of book kernels l) ≡ true) → (b : Bool)
-          → (l.0 == suc k) ≡ b → is_still (ends_of book kernels l) ≡ true
+      go : is_still_at book kernels (record { 0 = suc k }) ≡ true
+          → (l.0 ≤ k → is_still_at book kernels l ≡ true) → (b : Bool)
+          → (l.0 == suc k) ≡ b → is_still_at book kernels l ≡ true
       go last before true same =
-          subst (λ (h : LinkNo). is_still (ends_of book kernels h) ≡ true)
+          subst (λ (h : LinkNo). is_still_at book kernels h ≡ true)
           (sym (number-is l (suc k) same)) last
       go last before false other =
           before (lower (λ same. true≢false (sym (eq-eqb l.0 (suc k) same) ∙ other)))
@@ -79,7 +78,7 @@ module _ (shape : Shape) (P : List Step) (book : BookSoFar) (kernels : List Node
       let above : 0 < suc k = omega arith in
       let under : suc k ≤ length shape.links =
       subst (λ (n : ℕ). suc k ≤ n) many within in
-      both (all_still book kernels k) (is_still (ends_of book kernels l))
+      both (all_still book kernels k) (is_still_at book kernels l)
       (all-are still k (omega arith))
       (told-rest shape P book kernels left ready l (record { above = above; within = within })
       (still l (above, under)))

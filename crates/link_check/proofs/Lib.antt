@@ -18,5 +18,6 @@ pub mod Legal
 pub mod Nodes
 pub mod Steps
 pub mod AtLinks
+pub mod Rests
 pub mod Told
 pub mod Judging

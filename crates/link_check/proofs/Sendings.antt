@@ -1,14 +1,17 @@
--- One of the signals that were sent is found among all.
-use Rattle.std.proofs.Common.{◌≡◌, ℕ, Bool, true, false, ◌&&◌, List, [], ◌∷◌, filter, Some, inl}
+-- One of the flows of what was sent is found among all.
+use Rattle.std.proofs.Common.{◌≡◌, ℕ, Bool, true, false, ◌&&◌, ◌||◌, List, [], ◌∷◌, filter, Some, inl}
 use Rattle.std.proofs.Common.{inr, refl, sym, ◌∙◌, ap, subst, slice_get, true≢false}
 use Rattle.std.specs.List.{list_any, AllByRecursion}
-use Rattle.std.proofs.lemmas.Bool.{and_parts, or_cases, or_left, or_right}
+use Rattle.std.proofs.lemmas.Bool.{or_cases, or_left, or_right}
 use Rattle.linx_base.specs.Peers.{same_inc}
 use Rattle.linx_base.specs.SigNotes.{SigNote}
 use Rattle.linx_base.specs.declared.identity.Inc.{Inc}
-use Rattle.link_tables.specs.Sent.{notes_of, same_flow}
+use Rattle.link_tables.specs.Sent.{flows_of, notes_of, same_flow}
 use Rattle.link_tables.specs.declared.sent.Flow.{Flow}
 use Rattle.link_tables.specs.declared.sent.SentOver.{SentOver}
+use Rattle.link_tables.proofs.Flows.{flow-is}
+use Rattle.link_tables.proofs.FlowsOf.{any-flow}
+use Rattle.link_check.proofs.Ones.{any-both}
 use Rattle.link_check.proofs.Tests.{inc-is, inc-same}
 
 -- What holds of all holds of one that is among them
@@ -30,28 +33,30 @@ each-all P (j ∷ incs) each = (
   each-all P incs (λ i is. each i (or_right (same_inc i j) (list_any (same_inc i) incs) is)),
 )
 
--- A NOTE OF A FLOW is that of a signal
-module _ (f : Flow) (p q : SentOver → Bool)
-    (passes : (s : SentOver) → same_flow f s.flow ≡ true → (q s && p s) ≡ true) where
-  pub noted-sent : (k : ℕ) (note : SigNote) (sent : List SentOver)
-      → slice_get (notes_of f sent) k ≡ Some note → list_any p (filter q sent) ≡ true
-  noted-sent k note [] is = cc is
-  noted-sent k note (s ∷ sent) is =
-      go (same_flow f s.flow) refl (λ fewer. noted-sent k note sent fewer)
+-- WHERE A FLOW HAS A NOTE and passes two tests, one of the flows that pass the one passes the other
+module _ (f : Flow) (p q : Flow → Bool) (passes : (q f && p f) ≡ true) where
+  noted : (k : ℕ) (note : SigNote) (sent : List SentOver) → slice_get (notes_of f sent) k ≡ Some note
+      → list_any (λ (s : SentOver). q s.flow && p s.flow) sent ≡ true
+  noted k note [] is = cc is
+  noted k note (s ∷ sent) is =
+      go (same_flow f s.flow) refl (λ fewer. noted k note sent fewer)
     where
-      here : (q s ≡ true) × (p s ≡ true) → list_any p (filter q (s ∷ sent)) ≡ true
-      here parts = rw (parts.0) (or_left (p s) (list_any p (filter q sent)) parts.1)
-
-      later : (b : Bool) → q s ≡ b → list_any p (filter q sent) ≡ true
-          → list_any p (filter q (s ∷ sent)) ≡ true
-      later true e rest = rw e (or_right (p s) (list_any p (filter q sent)) rest)
-      later false e rest = rw e rest
-
       go : (b : Bool) → same_flow f s.flow ≡ b
-          → (slice_get (notes_of f sent) k ≡ Some note → list_any p (filter q sent) ≡ true)
-          → list_any p (filter q (s ∷ sent)) ≡ true
-      go true e more = here (and_parts (q s) (p s) (passes s e))
+          → (slice_get (notes_of f sent) k ≡ Some note
+          → list_any (λ (t : SentOver). q t.flow && p t.flow) sent ≡ true)
+          → ((q s.flow && p s.flow)
+          || list_any (λ (t : SentOver). q t.flow && p t.flow) sent) ≡ true
+      go true e more =
+          or_left (q s.flow && p s.flow) (list_any (λ (t : SentOver). q t.flow && p t.flow) sent)
+          (ap (λ (g : Flow). q g && p g) (sym (flow-is f s.flow e)) ∙ passes)
       go false e more =
           let fewer : notes_of f (s ∷ sent) ≡ notes_of f sent = rw e refl in
-          later (q s) refl
+          or_right (q s.flow && p s.flow)
+          (list_any (λ (t : SentOver). q t.flow && p t.flow) sent)
           (more (ap (λ (notes : List SigNote). slice_get notes k) (sym fewer) ∙ is))
+
+  pub noted-flow : (k : ℕ) (note : SigNote) (sent : List SentOver)
+      → slice_get (notes_of f sent) k ≡ Some note → list_any p (filter q (flows_of sent)) ≡ true
+  noted-flow k note sent is =
+      any-both p q (flows_of sent)
+      (any-flow (λ (g : Flow). q g && p g) sent ∙ noted k note sent is)

@@ -36,13 +36,11 @@ use Rattle.link_laws.specs.Still.{AllGot, HuntsAnswered, IsStillHalf, PeersOpen,
 use Rattle.node_kernel.specs.Nodes.{NodeState, first_named, is_living, is_open}
 use Rattle.link_tables.specs.Arrivals.{count_in, counts_left}
 use Rattle.link_tables.specs.Marks.{is_meeting_in, is_meeting_of, marks_left}
-use Rattle.link_tables.specs.Sent.{is_over, same_flow, sent_left}
+use Rattle.link_tables.specs.Sent.{flows_of, is_in, sent_left}
 use Rattle.link_tables.specs.Sides.{up_pair}
 use Rattle.link_tables.specs.declared.marks.Mark.{Mark}
 use Rattle.link_tables.specs.declared.marks.Mark.TheVariants.{Closed, Met, Opened}
 use Rattle.link_tables.specs.declared.sent.Flow.{Flow}
-use Rattle.link_tables.specs.declared.sent.SentOver.{SentOver}
-use Rattle.link_tables.proofs.Flows.{flow-is}
 use Rattle.link_tables.proofs.Marked.{met-told}
 use Rattle.link_check.specs.Deliveries.{Known, flow_of, is_session, is_to_come, known_left}
 use Rattle.link_check.specs.Deliveries.{next_sent}
@@ -52,7 +50,7 @@ use Rattle.link_check.specs.Stillness.{is_left_over, is_open_name, is_still_half
 use Rattle.link_check.proofs.Deliveries.{next-same, pair-is}
 use Rattle.link_check.proofs.Fronts.{all-behind, front-all}
 use Rattle.link_check.proofs.Ones.{One, any-both, any-kept, any-one, none-filtered}
-use Rattle.link_check.proofs.Sendings.{among, each-all, noted-sent}
+use Rattle.link_check.proofs.Sendings.{among, each-all, noted-flow}
 use Rattle.link_check.proofs.Tests.{both, bytes-is, inc-is, inc-same, is-bytes, link-is, session-is}
 use Rattle.link_check.proofs.Tests.{session-up, up-session}
 
@@ -168,21 +166,17 @@ module _ (P : List Step) (near far : NodeState) (at other : NodeNo) (l : LinkNo)
   next-is = next-same P near at other l side arrived counted short tells orderly x y
 
   looked-at : (a b : Inc) → is_alive P m (Here a) ≡ true → is_alive P n (Here b) ≡ true
-      → (note : SigNote) → next_sent d x y a b ≡ Some note → (s : SentOver)
-      → same_flow (flow_of a l y b) s.flow ≡ true
-      → (is_over l s.flow && is_under_way d e x y s) ≡ true
-  looked-at a b sender receiver note is s same =
-      subst (λ (f : Flow). (is_over l f && (f.session.0 == y.0 && (is_open far.endpoints f.at
-      && (is_open near.endpoints f.peer && is_some (next_sent d x f.session f.at f.peer))))) ≡ true)
-      (flow-is (flow_of a l y b) s.flow same)
-      (both (l.0 == l.0) (y.0 == y.0 && (is_open far.endpoints a && (is_open near.endpoints b
-      && is_some (next_sent d x y a b)))) (eq-eqb l.0 l.0 refl)
-      (both (y.0 == y.0) (is_open far.endpoints a && (is_open near.endpoints b
-      && is_some (next_sent d x y a b))) (eq-eqb y.0 y.0 refl)
-      (both (is_open far.endpoints a) (is_open near.endpoints b
-      && is_some (next_sent d x y a b)) (across.here a ∙ sender)
-      (both (is_open near.endpoints b) (is_some (next_sent d x y a b)) (tells.here b ∙ receiver)
-      (ap (λ (o : Option SigNote). is_some o) is)))))
+      → (note : SigNote) → next_sent d x y a b ≡ Some note
+      → (is_in l y (flow_of a l y b) && is_under_way d e x (flow_of a l y b)) ≡ true
+  looked-at a b sender receiver note is =
+      both (l.0 == l.0 && y.0 == y.0) ((is_some (next_sent d x y a b)
+      && is_open near.endpoints b) && is_open far.endpoints a)
+      (both (l.0 == l.0) (y.0 == y.0) (eq-eqb l.0 l.0 refl) (eq-eqb y.0 y.0 refl))
+      (both (is_some (next_sent d x y a b) && is_open near.endpoints b)
+      (is_open far.endpoints a)
+      (both (is_some (next_sent d x y a b)) (is_open near.endpoints b)
+      (ap (λ (o : Option SigNote). is_some o) is) (tells.here b ∙ receiver))
+      (across.here a ∙ sender))
 
   got-of : paired_session P n l.0 x ≡ Some y → any_under_way d e x y ≡ false → (a : Inc)
       → is_alive P m (Here a) ≡ true → (b : Inc) → is_alive P n (Here b) ≡ true → HasGot a b
@@ -193,9 +187,9 @@ module _ (P : List Step) (near far : NodeState) (at other : NodeNo) (l : LinkNo)
           front-all (arrived_from P b (There l x a)) (sent_to P a (There l y b))
           (orderly.fronts x y up paired a b receiver) (sym (next-is a b) ∙ is)
       go (Some note) is =
-          absurd (true≢false (sym (noted-sent (flow_of a l y b) (is_under_way d e x y)
-          (λ (s : SentOver). is_over l s.flow) (looked-at a b sender receiver note is)
-          (count_in arrived (flow_of b l x a)) note (sent_left P) is) ∙ none))
+          absurd (true≢false (sym (noted-flow (flow_of a l y b) (is_under_way d e x) (is_in l y)
+          (looked-at a b sender receiver note is) (count_in arrived (flow_of b l x a)) note
+          (sent_left P) is) ∙ none))
 
   all-got : paired_session P n l.0 x ≡ Some y → any_under_way d e x y ≡ false
       → AllGot P n m l x y
@@ -204,24 +198,23 @@ module _ (P : List Step) (near far : NodeState) (at other : NodeNo) (l : LinkNo)
       (λ a sender. each-all (HasGot a) (open_endpoints P n)
       (λ b receiver. got-of paired none a sender b receiver))
 
-  under-way : AllGot P n m l x y → (s : SentOver) → is_over l s.flow ≡ true
-      → is_under_way d e x y s ≡ true → ⊥
-  under-way all s over due =
-      let one = and_parts (s.flow.session.0 == y.0) (is_open far.endpoints s.flow.at
-      && is_to_come d x s) due in
-      let two = and_parts (is_open far.endpoints s.flow.at) (is_to_come d x s) one.1 in
-      let three = and_parts (is_open near.endpoints s.flow.peer)
-      (is_some (next_sent d x s.flow.session s.flow.at s.flow.peer)) two.1 in
-      let a : Inc = s.flow.at in
-      let b : Inc = s.flow.peer in
+  under-way : AllGot P n m l x y → (f : Flow) → is_in l y f ≡ true → is_under_way d e x f ≡ true
+      → ⊥
+  under-way all f over due =
+      let one = and_parts (l.0 == f.link.0) (y.0 == f.session.0) over in
+      let two = and_parts (is_to_come d x f) (is_open far.endpoints f.at) due in
+      let three = and_parts (is_some (next_sent d x f.session f.at f.peer))
+      (is_open near.endpoints f.peer) two.0 in
+      let a : Inc = f.at in
+      let b : Inc = f.peer in
       let there : is_some (next_sent d x y a b) ≡ true =
       subst (λ (z : Session). is_some (next_sent d x z a b) ≡ true)
-      (session-is s.flow.session y one.0) three.1 in
+      (sym (session-is y f.session one.1)) three.0 in
       let of_a : AllByRecursion (HasGot a) (open_endpoints P n) =
       among (λ (i : Inc). AllByRecursion (HasGot i) (open_endpoints P n)) a (open_endpoints P m) all
-      (sym (across.here a) ∙ two.0) in
+      (sym (across.here a) ∙ two.1) in
       let got : HasGot a b =
-      among (HasGot a) b (open_endpoints P n) of_a (sym (tells.here b) ∙ three.0) in
+      among (HasGot a) b (open_endpoints P n) of_a (sym (tells.here b) ∙ three.1) in
       let none : next_sent d x y a b ≡ None =
       next-is a b
       ∙ ap (λ (notes : List SigNote). slice_get (sent_to P a (There l y b)) (length notes)) got
@@ -230,8 +223,7 @@ module _ (P : List Step) (near far : NodeState) (at other : NodeNo) (l : LinkNo)
 
   got-all : AllGot P n m l x y → any_under_way d e x y ≡ false
   got-all all =
-      none-filtered (is_under_way d e x y) (λ (s : SentOver). is_over l s.flow) (sent_left P)
-      (under-way all)
+      none-filtered (is_under_way d e x) (is_in l y) (flows_of (sent_left P)) (under-way all)
 
   -- PEERS
   abbrev IsOpen : Peer → Type 0

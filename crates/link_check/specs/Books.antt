@@ -18,7 +18,7 @@ use Rattle.link_tables.specs.declared.sent.Flow.{Flow}
 use Rattle.link_tables.specs.declared.sent.SentOver.{SentOver}
 use Rattle.node_kernel.specs.Nodes.{NodeState}
 use Rattle.link_check.specs.Deliveries.{Known}
-use Rattle.link_check.specs.Lines.{AreLinesLeft, LineSoFar, fresh_line, line_past_if, side_in}
+use Rattle.link_check.specs.Lines.{AreLinesLeft, LineSoFar, fresh_line, line_after, side_in}
 
 -- WHAT IS KEPT: the links, what is kept of each, what was opened, closed, met and sent, and how much
 -- arrived
@@ -54,7 +54,7 @@ pub record ArePast (links : List LinkDecl) (s : Step) (old new : List LineSoFar)
   pub counted : length new ≡ length old
   pub each : (k : ℕ) (line : LineSoFar) (ends : LinkDecl) → slice_get old k ≡ Some line
       → slice_get links k ≡ Some ends
-      → slice_get new k ≡ Some (line_past_if (suc k) ends s line)
+      → slice_get new k ≡ Some (line_after (suc k) ends s line)
 
 -- THE BOOK after a step whose maker has this endpoint
 pub record IsPast (me : Option Inc) (s : Step) (old new : BookSoFar) : Type 0 where

@@ -19,7 +19,7 @@ use Rattle.node_kernel.specs.Nodes.{NodeState, is_living, is_open}
 use Rattle.link_tables.specs.Arrivals.{count_in}
 use Rattle.link_tables.specs.Marks.{is_closing_of, is_meeting_of, is_opening_of, marks_left}
 use Rattle.link_tables.specs.Marks.{opened_as}
-use Rattle.link_tables.specs.Sent.{is_from, notes_of, sent_left}
+use Rattle.link_tables.specs.Sent.{flows_of, is_from, notes_of, sent_left}
 use Rattle.link_tables.specs.Sides.{SideSoFar, had_in, own_in, side_left}
 use Rattle.link_tables.specs.declared.marks.Mark.{Mark}
 use Rattle.link_tables.specs.declared.sent.Flow.{Flow}
@@ -120,16 +120,14 @@ may_meet d x a name =
     && (was_named d a name
     && not (list_any (is_meeting_of d.at.0 (There d.link x a)) d.marks)))
 
--- PARTINGS. A signal that was sent has still to come to an endpoint that is open
-abbrev pub is_to_come : Known → Session → SentOver → Bool
-is_to_come d x s =
-    is_open d.node.endpoints s.flow.peer
-    && is_some (next_sent d x s.flow.session s.flow.at s.flow.peer)
+-- PARTINGS. A signal of a flow has still to come to an endpoint that is open
+abbrev pub is_to_come : Known → Session → Flow → Bool
+is_to_come d x f =
+    is_some (next_sent d x f.session f.at f.peer) && is_open d.node.endpoints f.peer
 
 -- one of those that incarnation a sent in session y has
 abbrev pub is_due : Known → (x y : Session) → Inc → Bool
-is_due d x y a =
-    list_any (is_to_come d x) (filter (λ s. is_from a d.link y s.flow) d.sent)
+is_due d x y a = list_any (is_to_come d x) (filter (is_from a d.link y) (flows_of d.sent))
 
 -- none of them has
 abbrev pub all_came : Option Session → Known → Session → Inc → Bool

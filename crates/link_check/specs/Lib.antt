@@ -6,6 +6,7 @@ pub mod Reading
 pub mod Coming
 pub mod Stillness
 pub mod Orderly
+pub mod Rest
 pub mod Lines
 pub mod Books
 pub mod Told

@@ -9,16 +9,18 @@ use Rattle.journal.specs.declared.head.Head.{Head}
 use Rattle.journal.specs.declared.head.Head.TheVariants.{Cut, Mend, Restart, Tick, Wire}
 use Rattle.link_laws.specs.Sessions.{cut_after, is_cut}
 use Rattle.link_tables.specs.Sides.{SideSoFar, fresh_side, side_left, side_past}
+use Rattle.link_check.specs.Rest.{rests_left, rests_past}
 
--- WHAT IS KEPT OF A LINK: its sides, and whether it is cut
+-- WHAT IS KEPT OF A LINK: its sides, whether it is cut, and whether it rests
 pub record LineSoFar : Type 0 where
   pub first : SideSoFar
   pub second : SideSoFar
   pub cut : Bool
+  pub rests : Bool
 
 -- a link before the first step
 abbrev pub fresh_line : LineSoFar
-fresh_line = record { first = fresh_side; second = fresh_side; cut = false }
+fresh_line = record { first = fresh_side; second = fresh_side; cut = false; rests = false }
 
 -- one of its sides
 abbrev pub side_in : LineSoFar → Side → SideSoFar
@@ -31,17 +33,19 @@ line_left P l ends = record {
   first = side_left P ends.first.0 l First;
   second = side_left P ends.second.0 l Second;
   cut = is_cut P l;
+  rests = rests_left P l ends;
 }
 
--- after a step
+-- its sides and its cut after a step
 abbrev pub line_past : ℕ → LinkDecl → Step → LineSoFar → LineSoFar
 line_past l ends s old = record {
   first = side_past ends.first.0 l First s old.first;
   second = side_past ends.second.0 l Second s old.second;
   cut = cut_after l old.cut s.head;
+  rests = old.rests;
 }
 
--- a step of this head changes what is kept of a link
+-- a step of this head changes its sides or its cut
 abbrev pub touches : ℕ → Head → Bool
 touches link (Wire l from verdict) = l.0 == link
 touches link (Tick l side) = l.0 == link
@@ -50,9 +54,14 @@ touches link (Mend l) = l.0 == link
 touches link (Restart n) = true
 touches link _ = false
 
--- after a step, which changes it or doesn't
+-- after a step, which changes them or doesn't
 abbrev pub line_past_if : ℕ → LinkDecl → Step → LineSoFar → LineSoFar
 line_past_if l ends s old = if touches l s.head then line_past l ends s old else old
+
+-- A LINK AFTER A STEP, which may also stir it
+abbrev pub line_after : ℕ → LinkDecl → Step → LineSoFar → LineSoFar
+line_after l ends s old =
+    record (line_past_if l ends s old) { rests = rests_past l ends s old.rests }
 
 -- THE LINES are those of the links from 1 on, as the history leaves them
 pub record AreLinesLeft (P : List Step) (links : List LinkDecl) (lines : List LineSoFar) : Type 0

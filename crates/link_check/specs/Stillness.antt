@@ -9,9 +9,9 @@ use Rattle.linx_base.specs.declared.identity.Session.{Session}
 use Rattle.linx_base.specs.declared.pending.PendingHunt.{PendingHunt}
 use Rattle.node_kernel.specs.Nodes.{OpenEndpoint, first_named, is_living, is_open}
 use Rattle.link_tables.specs.Marks.{is_meeting_in, met_by}
-use Rattle.link_tables.specs.Sent.{is_over}
+use Rattle.link_tables.specs.Sent.{flows_of, is_in}
 use Rattle.link_tables.specs.declared.marks.Mark.{Mark}
-use Rattle.link_tables.specs.declared.sent.SentOver.{SentOver}
+use Rattle.link_tables.specs.declared.sent.Flow.{Flow}
 use Rattle.link_check.specs.Deliveries.{Known, is_session, is_to_come}
 
 -- THE TWO ENDS of a link, and whether it is cut
@@ -20,14 +20,14 @@ pub record Ends : Type 0 where
   pub second : Known
   pub cut : Bool
 
--- SIGNALS. One that an open endpoint across sent in session y has still to come to an open one here
-abbrev pub is_under_way : (d e : Known) → (x y : Session) → SentOver → Bool
-is_under_way d e x y s =
-    s.flow.session.0 == y.0 && (is_open e.node.endpoints s.flow.at && is_to_come d x s)
+-- SIGNALS. One of a flow has still to come, from an open endpoint across to an open one here
+abbrev pub is_under_way : (d e : Known) → Session → Flow → Bool
+is_under_way d e x f = is_to_come d x f && is_open e.node.endpoints f.at
 
+-- one has, of a flow of session y across
 abbrev pub any_under_way : (d e : Known) → (x y : Session) → Bool
 any_under_way d e x y =
-    list_any (is_under_way d e x y) (filter (λ s. is_over d.link s.flow) d.sent)
+    list_any (is_under_way d e x) (filter (is_in d.link y) (flows_of d.sent))
 
 -- PEERS. One that was met is alive here, and isn't open across
 abbrev pub is_left_if : (d e : Known) → Option (Peer × Inc) → Bool

@@ -1,5 +1,6 @@
 -- The laws of links, as a book and the kernels of the nodes tell them.
-use Rattle.std.specs.Prelude.{ℕ, zero, suc, ◌-◌, ◌<◌, ◌≤◌, ◌≡◌, Bool, true, false, ◌&&◌, List}
+use Rattle.std.specs.Prelude.{ℕ, zero, suc, ◌-◌, ◌<◌, ◌≤◌, ◌≡◌, Bool, true, false, ◌&&◌, ◌||◌}
+use Rattle.std.specs.Prelude.{List}
 use Rattle.std.specs.Prelude.{is_none, length, Option, Some, None, slice_get}
 use Rattle.std.specs.List.{AllByRecursion}
 use Rattle.std.specs.Option.{unwrap_or}
@@ -56,11 +57,15 @@ ends_of book kernels l = record {
   cut = (line_in book l).cut;
 }
 
--- REST. The first links, so many, are still
+-- REST. A link rests, or is still by what is known at its ends
+abbrev pub is_still_at : BookSoFar → List NodeState → LinkNo → Bool
+is_still_at book kernels l = (line_in book l).rests || is_still (ends_of book kernels l)
+
+-- the first links, so many, are still
 abbrev pub all_still : BookSoFar → List NodeState → ℕ → Bool
 all_still book kernels zero = true
 all_still book kernels (suc k) =
-    all_still book kernels k && is_still (ends_of book kernels (record { 0 = suc k }))
+    all_still book kernels k && is_still_at book kernels (record { 0 = suc k })
 
 -- the law of rest: a receive finds none only where every link is still
 abbrev pub keeps_rest : BookSoFar → List NodeState → Head → Bool

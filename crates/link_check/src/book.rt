@@ -173,6 +173,15 @@ impl Book {
         self.line_of(link).is_cut()
     }
 
+    /// Whether a link rests.
+    pub(crate) fn rests(&self, link: LinkNo) -> bool
+        requires takes { TakesStep self.now }
+        requires there { IsThere self.now link }
+        ensures { result ≡ (line_in self.now link).rests }
+    {
+        self.line_of(link).rests()
+    }
+
     /// A side of a link.
     pub(crate) fn side(&self, link: LinkNo, side: Side) -> &SideTable
         requires takes { TakesStep self.now }

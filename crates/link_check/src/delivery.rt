@@ -10,7 +10,7 @@ ghost use Rattle.link_check.specs.Deliveries.{is_due, may_be_first, named_as, ne
 ghost use Rattle.link_check.specs.Deliveries.{was_opened_there};
 
 use journal::Effect;
-use link_tables::{Arrivals, Flow, Marks, Sent, SentOver, SideTable};
+use link_tables::{Arrivals, Flow, Marks, Sent, SideTable};
 use linx_base::{Inc, LinkNo, Name, NodeNo, Peer, Session, SigNote};
 use node_kernel::Kernel;
 use std::marker::Model;
@@ -175,24 +175,22 @@ impl<'a> Delivery<'a> {
                     && !self.marks.was_met(self.at, self.link, session, inc)))
     }
 
-    /// Whether a signal that was sent has still to come to an endpoint that is open.
-    pub(crate) fn is_to_come(&self, session: Session, sent: &SentOver) -> bool
-        ensures { result ≡ is_to_come self.now session sent.now }
+    /// Whether a signal of a flow has still to come to an endpoint that is open.
+    pub(crate) fn is_to_come(&self, session: Session, flow: Flow) -> bool
+        ensures { result ≡ is_to_come self.now session flow }
     {
-        let flow = sent.flow();
-        self.node.is_open(flow.peer)
-            && self
-                .next_sent(session, flow.session, flow.at, flow.peer)
-                .is_some()
+        self.next_sent(session, flow.session, flow.at, flow.peer)
+            .is_some()
+            && self.node.is_open(flow.peer)
     }
 
     /// Whether all that a peer sent in a session came to the endpoints that are open.
     fn all_came_of(&self, session: Session, pair: Session, inc: Inc) -> bool
         ensures { result ≡ not (is_due self.now session pair inc) }
     {
-        let mut left = self.sent.sent_from(inc, self.link, pair);
-        while let Some(sent) = left.next_entry() {
-            let due = self.is_to_come(session, sent);
+        let mut left = self.sent.flows_from(inc, self.link, pair);
+        while let Some(flow) = left.next_entry() {
+            let due = self.is_to_come(session, *flow);
             if due {
                 return false;
             }

@@ -2,7 +2,8 @@
 ghost use Rattle.std.specs.Prelude.{◌≡◌, length, true};
 ghost use Rattle.link_laws.specs.Laws.{delivers};
 ghost use Rattle.link_check.specs.Links.{is_of_link};
-ghost use Rattle.link_check.specs.Told.{IsReady, all_still, are_none, keeps_cuts, keeps_rest};
+ghost use Rattle.link_check.specs.Told.{IsReady, IsThere, all_still, are_none, is_still_at};
+ghost use Rattle.link_check.specs.Told.{keeps_cuts, keeps_rest};
 ghost use Rattle.link_check.specs.Told.{may_lose, may_lose_by, may_pass, may_pass_if, may_tick};
 ghost use Rattle.link_check.specs.Books.{TakesStep};
 ghost use Rattle.link_tables.specs.Sides.{HasRoom};
@@ -70,6 +71,15 @@ fn may_lose(side: &SideTable, effects: &[Effect]) -> bool
 }
 
 impl Book {
+    /// Whether a link is still: it rests, or what is known at its ends tells it.
+    fn is_still_at(&self, kernels: &[Kernel], link: LinkNo) -> bool
+        requires ready { IsReady self.now kernels.now }
+        requires there { IsThere self.now link }
+        ensures { result ≡ is_still_at self.now kernels.now link }
+    {
+        self.rests(link) || self.ends(kernels, link).is_still()
+    }
+
     /// Whether every link is still.
     fn all_still(&self, kernels: &[Kernel]) -> bool
         requires ready { IsReady self.now kernels.now }
@@ -78,7 +88,7 @@ impl Book {
         let mut all = true;
         for place in 0..self.link_count() {
             let link = LinkNo(place as u32 + 1);
-            let still = self.ends(kernels, link).is_still();
+            let still = self.is_still_at(kernels, link);
             all = all && still;
         }
         all

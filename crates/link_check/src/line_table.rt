@@ -1,20 +1,24 @@
 //! What is kept of a link.
 ghost use Rattle.std.specs.Prelude.{◌≡◌, false, OnOk};
 ghost use Rattle.link_tables.specs.Sides.{HasRoom};
-ghost use Rattle.link_check.specs.Lines.{fresh_line, line_past, line_past_if, side_in, touches};
+ghost use Rattle.link_check.specs.Lines.{fresh_line, line_after, line_past, line_past_if, side_in};
+ghost use Rattle.link_check.specs.Lines.{touches};
 
+use crate::rest::rests_past;
 use journal::{Head, Step};
 use link_tables::{SideTable, cut_after};
 use linx_base::{LinkDecl, LinkNo, NoMemory, Side};
 use std::alloc::Global;
 use std::marker::Model;
 
-/// The two sides of a link, and whether it is cut.
+/// The two sides of a link, whether it is cut, and whether it rests: it was still at a receive that
+/// found none, and no step has stirred it since.
 #[derive(Drop)]
 pub(crate) struct LineTable {
     first: SideTable,
     second: SideTable,
     cut: bool,
+    rests: bool,
 }
 
 impl Model for LineTable {
@@ -22,10 +26,15 @@ impl Model for LineTable {
 
     ghost Value = { LineSoFar };
 
-    ghost view = { λ t. record { first = t.first; second = t.second; cut = t.cut } };
+    ghost view = { λ t. record {
+      first = t.first;
+      second = t.second;
+      cut = t.cut;
+      rests = t.rests;
+    } };
 }
 
-/// Whether a step of this head changes what is kept of a link.
+/// Whether a step of this head changes the sides of a link, or whether it is cut.
 fn touches(link: LinkNo, head: &Head) -> bool
     ensures { result ≡ touches link.0 head.now }
 {
@@ -48,6 +57,7 @@ impl LineTable {
             first: SideTable::new(alloc),
             second: SideTable::new(alloc),
             cut: false,
+            rests: false,
         }
     }
 
@@ -68,6 +78,13 @@ impl LineTable {
         self.cut
     }
 
+    /// Whether the link rests.
+    pub(crate) fn rests(&self) -> bool
+        ensures { result ≡ self.now.rests }
+    {
+        self.rests
+    }
+
     /// Both sides pass a step.
     fn pass_sides(&mut self, link: LinkNo, ends: &LinkDecl, step: &Step) -> Result<(), NoMemory>
         requires first { HasRoom self.old.first }
@@ -80,13 +97,8 @@ impl LineTable {
         Ok(())
     }
 
-    /// Passes a step. One of another link changes nothing.
-    pub(crate) fn pass(
-        &mut self,
-        link: LinkNo,
-        ends: &LinkDecl,
-        step: &Step,
-    ) -> Result<(), NoMemory>
+    /// Both sides pass a step, if it is of the link.
+    fn pass_if(&mut self, link: LinkNo, ends: &LinkDecl, step: &Step) -> Result<(), NoMemory>
         requires first { HasRoom self.old.first }
         requires second { HasRoom self.old.second }
         ensures { OnOk result (self.new ≡ line_past_if link.0 ends.now step.now self.old) }
@@ -96,5 +108,22 @@ impl LineTable {
         } else {
             Ok(())
         }
+    }
+
+    /// Passes a step.
+    pub(crate) fn pass(
+        &mut self,
+        link: LinkNo,
+        ends: &LinkDecl,
+        step: &Step,
+    ) -> Result<(), NoMemory>
+        requires first { HasRoom self.old.first }
+        requires second { HasRoom self.old.second }
+        ensures { OnOk result (self.new ≡ line_after link.0 ends.now step.now self.old) }
+    {
+        let rests = rests_past(link, ends, step, self.rests);
+        self.pass_if(link, ends, step)?;
+        self.rests = rests;
+        Ok(())
     }
 }

@@ -9,7 +9,7 @@ ghost use Rattle.link_check.specs.Stillness.{is_findable, is_left_over, is_open_
 ghost use Rattle.link_check.specs.Stillness.{is_still_half, is_still_whole, is_under_way};
 
 use crate::delivery::{Delivery, is_session};
-use link_tables::{Mark, SentOver};
+use link_tables::{Flow, Mark};
 use linx_base::{LinkNo, Name, Path, PendingHunt, Session};
 use node_kernel::Kernel;
 use std::marker::Model;
@@ -51,28 +51,20 @@ fn is_open_name(kernel: &Kernel, name: Option<&Name>) -> bool
 }
 
 impl<'a> Delivery<'a> {
-    /// Whether a signal of an open endpoint across has still to come to an open one here.
-    fn is_under_way(
-        &self,
-        across: &Delivery<'_>,
-        session: Session,
-        other: Session,
-        sent: &SentOver,
-    ) -> bool
-        ensures { result ≡ is_under_way self.now across.now session other sent.now }
+    /// Whether a signal of a flow has still to come, from an open endpoint across to an open one here.
+    fn is_under_way(&self, across: &Delivery<'_>, session: Session, flow: Flow) -> bool
+        ensures { result ≡ is_under_way self.now across.now session flow }
     {
-        let flow = sent.flow();
-        flow.session.0 == other.0
-            && (across.node.is_open(flow.at) && self.is_to_come(session, sent))
+        self.is_to_come(session, flow) && across.node.is_open(flow.at)
     }
 
-    /// Whether one has.
+    /// Whether one has, of a flow of the session across.
     fn any_under_way(&self, across: &Delivery<'_>, session: Session, other: Session) -> bool
         ensures { result ≡ any_under_way self.now across.now session other }
     {
-        let mut left = self.sent.sent_over(self.link);
-        while let Some(sent) = left.next_entry() {
-            let under_way = self.is_under_way(across, session, other, sent);
+        let mut left = self.sent.flows_in(self.link, other);
+        while let Some(flow) = left.next_entry() {
+            let under_way = self.is_under_way(across, session, *flow);
             if under_way {
                 return true;
             }

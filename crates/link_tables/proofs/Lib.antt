@@ -5,6 +5,7 @@ pub mod Room
 pub mod Keys
 pub mod Marked
 pub mod Flows
+pub mod FlowsOf
 pub mod Arrived
 pub mod Counting
 pub mod Named

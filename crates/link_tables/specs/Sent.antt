@@ -1,6 +1,7 @@
 -- What was sent over links, as a list of signals, each with its flow.
 use Rattle.std.specs.Prelude.{◌≡◌, Bool, ◌&&◌, ◌==◌, List, [], ◌∷◌, ◌++◌, filter, map, Option, Some}
 use Rattle.std.specs.Prelude.{None, if◌then◌else◌}
+use Rattle.std.specs.List.{fold, list_any}
 use Rattle.linx_base.specs.Peers.{same_inc, same_peer}
 use Rattle.linx_base.specs.SigNotes.{SigNote}
 use Rattle.linx_base.specs.declared.identity.Inc.{Inc}
@@ -14,15 +15,17 @@ use Rattle.journal.specs.declared.effect.Step.{Step}
 use Rattle.journal.specs.declared.head.Head.{Head}
 use Rattle.journal.specs.declared.head.Head.TheVariants.{Send}
 use Rattle.link_tables.specs.declared.sent.Flow.{Flow}
-use Rattle.link_tables.specs.declared.sent.SentKey.{SentKey}
-use Rattle.link_tables.specs.declared.sent.SentKey.TheVariants as keys
+use Rattle.link_tables.specs.declared.sent.FlowKey.{FlowKey}
+use Rattle.link_tables.specs.declared.sent.FlowKey.TheVariants as keys
 use Rattle.link_tables.specs.declared.sent.SentOver.{SentOver}
 
--- a signal is found by its flow, by who sent it in which session, and by its link
-abbrev pub sent_keys : SentOver → List SentKey
-sent_keys sent =
-    keys.Flow sent.flow ∷ keys.From sent.flow.at sent.flow.link sent.flow.session
-    ∷ keys.Over sent.flow.link ∷ []
+-- a signal is found by its flow
+abbrev pub sent_keys : SentOver → List Flow
+sent_keys sent = sent.flow ∷ []
+
+-- a flow is found as itself, by who it is from in which session, and by its session of a link
+abbrev pub flow_keys : Flow → List FlowKey
+flow_keys f = keys.Itself f ∷ keys.From f.at f.link f.session ∷ keys.In f.link f.session ∷ []
 
 -- the peer of a flow
 abbrev pub peer_of : Flow → Peer
@@ -37,13 +40,21 @@ abbrev pub is_from : Inc → LinkNo → Session → Flow → Bool
 is_from at link session f =
     same_inc at f.at && (link.0 == f.link.0 && session.0 == f.session.0)
 
--- a flow over this link
-abbrev pub is_over : LinkNo → Flow → Bool
-is_over link f = link.0 == f.link.0
+-- a flow in this session of a link
+abbrev pub is_in : LinkNo → Session → Flow → Bool
+is_in link session f = link.0 == f.link.0 && session.0 == f.session.0
 
 -- the signals of a flow, in order
 abbrev pub notes_of : Flow → List SentOver → List SigNote
 notes_of flow sent = map (λ s. s.note) (filter (λ s. same_flow flow s.flow) sent)
+
+-- flows with one more, if it is new
+abbrev pub with_flow : List Flow → SentOver → List Flow
+with_flow flows s = if list_any (same_flow s.flow) flows then flows else flows ++ s.flow ∷ []
+
+-- THE FLOWS of signals, each once, in the order of their first signals
+abbrev pub flows_of : List SentOver → List Flow
+flows_of sent = fold with_flow [] sent
 
 -- the flow from an endpoint to a peer over a link; none of a peer on the own node
 abbrev pub flow_to : Inc → Peer → Option Flow

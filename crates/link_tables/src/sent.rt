@@ -1,10 +1,12 @@
-//! What was sent over links so far.
-ghost use Rattle.std.specs.Prelude.{◌≡◌, ◌++◌, [], ◌∷◌, slice_get, length, ◌≤◌, IfOk, OnOk, filter};
+//! What was sent over links so far, and in which flows.
+ghost use Rattle.std.specs.Prelude.{◌≡◌, ◌++◌, [], ◌∷◌, slice_get, length, ◌≤◌, IfOk, OnErr, OnOk};
+ghost use Rattle.std.specs.Prelude.{false, filter, true};
+ghost use Rattle.std.specs.List.{list_any};
 ghost use Rattle.std.specs.Option.{option_copied, option_map};
-ghost use Rattle.link_tables.specs.Sent.{flow_to, is_from, is_over, notes_of, same_flow, sent_keys};
-ghost use Rattle.link_tables.specs.Sent.{sent_over, sent_past, with_sent};
+ghost use Rattle.link_tables.specs.Sent.{flow_keys, flow_to, flows_of, is_from, is_in, notes_of};
+ghost use Rattle.link_tables.specs.Sent.{same_flow, sent_keys, sent_over, sent_past, with_sent};
 ghost use Rattle.keyed_list.specs.Keys.{is_under};
-ghost use Rattle.link_tables.specs.declared.sent.SentOver.{SentOver as Sending};
+ghost use Rattle.link_tables.specs.declared.sent.Flow.{Flow as Way};
 
 use journal::{Head, SentTo};
 use keyed_list::{Keyed, KeyedList, Under};
@@ -21,13 +23,13 @@ pub struct Flow {
     pub peer: Inc,
 }
 
-/// By what a signal is found: its flow, the endpoint that sent it with the session that it sent it
-/// in, and the link.
+/// By what a flow is found: as itself, by the endpoint that it is from with its session, and by its
+/// session of a link.
 #[derive(PartialEq, Eq, PartialOrd, Ord, Drop)]
-pub enum SentKey {
-    Flow(Flow),
+pub enum FlowKey {
+    Itself(Flow),
     From(Inc, LinkNo, Session),
-    Over(LinkNo),
+    In(LinkNo, Session),
 }
 
 /// A signal that an endpoint sent to a peer over a link.
@@ -37,53 +39,55 @@ pub struct SentOver {
     note: SigNote,
 }
 
-/// A walk over signals that were sent, in order.
-pub type SentUnder<'a> = Under<'a, SentOver, SentKey>;
+/// A walk over flows, in the order of their first signals.
+pub type FlowsUnder<'a> = Under<'a, Flow, FlowKey>;
 
-impl Keyed<SentKey> for SentOver {
+impl Keyed<Flow> for SentOver {
     ghost keys = { sent_keys };
 
-    fn key(&self, at: u8) -> Option<SentKey> {
+    fn key(&self, at: u8) -> Option<Flow> {
         match at {
-            0 => Some(SentKey::Flow(self.flow)),
-            1 => Some(SentKey::From(self.flow.at, self.flow.link, self.flow.session)),
-            2 => Some(SentKey::Over(self.flow.link)),
+            0 => Some(self.flow),
             _ => None,
         }
     }
 }
 
-impl SentOver {
-    /// The flow that it is of.
-    pub fn flow(&self) -> Flow
-        ensures { result ≡ self.now.flow }
-    {
-        self.flow
+impl Keyed<FlowKey> for Flow {
+    ghost keys = { flow_keys };
+
+    fn key(&self, at: u8) -> Option<FlowKey> {
+        match at {
+            0 => Some(FlowKey::Itself(*self)),
+            1 => Some(FlowKey::From(self.at, self.link, self.session)),
+            2 => Some(FlowKey::In(self.link, self.session)),
+            _ => None,
+        }
     }
 }
 
-/// The key of the signals of a flow.
-fn flow_key(flow: Flow) -> SentKey
-    ensures { (sent : Sending) → is_under ⟦<SentKey as Ord>⟧.cmp sent_keys result sent
-        ≡ same_flow flow sent.flow }
+/// The key of a flow.
+fn own_key(flow: Flow) -> FlowKey
+    ensures { (way : Way) → is_under ⟦<FlowKey as Ord>⟧.cmp flow_keys result way
+        ≡ same_flow flow way }
 {
-    SentKey::Flow(flow)
+    FlowKey::Itself(flow)
 }
 
-/// The key of those that an endpoint sent in a session of a link.
-fn from_key(at: Inc, link: LinkNo, session: Session) -> SentKey
-    ensures { (sent : Sending) → is_under ⟦<SentKey as Ord>⟧.cmp sent_keys result sent
-        ≡ is_from at link session sent.flow }
+/// The key of the flows from an endpoint in a session of a link.
+fn from_key(at: Inc, link: LinkNo, session: Session) -> FlowKey
+    ensures { (way : Way) → is_under ⟦<FlowKey as Ord>⟧.cmp flow_keys result way
+        ≡ is_from at link session way }
 {
-    SentKey::From(at, link, session)
+    FlowKey::From(at, link, session)
 }
 
-/// The key of those that were sent over a link.
-fn over_key(link: LinkNo) -> SentKey
-    ensures { (sent : Sending) → is_under ⟦<SentKey as Ord>⟧.cmp sent_keys result sent
-        ≡ is_over link sent.flow }
+/// The key of those in a session of a link.
+fn in_key(link: LinkNo, session: Session) -> FlowKey
+    ensures { (way : Way) → is_under ⟦<FlowKey as Ord>⟧.cmp flow_keys result way
+        ≡ is_in link session way }
 {
-    SentKey::Over(link)
+    FlowKey::In(link, session)
 }
 
 /// The flow from an endpoint to a peer over a link; none of a peer on the own node.
@@ -128,19 +132,60 @@ fn note_in(sent: Option<&SentOver>) -> Option<&SigNote>
     }
 }
 
+/// Adds the first signal of a flow, and the flow. A refusal changes nothing.
+fn push_first(
+    sent: &mut KeyedList<SentOver, Flow>,
+    flows: &mut KeyedList<Flow, FlowKey>,
+    first: SentOver,
+) -> Result<(), NoMemory>
+    requires known { flows.old ≡ flows_of sent.old }
+    requires fresh { list_any (same_flow first.flow) (flows_of sent.old) ≡ false }
+    ensures known { flows.new ≡ flows_of sent.new }
+    ensures ok { OnOk result (sent.new ≡ sent.old ++ first ∷ []) }
+    ensures err { OnErr result (sent.new ≡ sent.old) }
+{
+    if let Err((refusal, _)) = flows.push(first.flow) {
+        return Err(refusal);
+    }
+    match sent.push(first) {
+        Ok(()) => Ok(()),
+        Err((refusal, _)) => {
+            flows.take_last();
+            Err(refusal)
+        }
+    }
+}
+
+/// Adds one more signal of a flow. A refusal changes nothing.
+fn push_next(sent: &mut KeyedList<SentOver, Flow>, next: SentOver) -> Result<(), NoMemory>
+    requires known { list_any (same_flow next.flow) (flows_of sent.old) ≡ true }
+    ensures known { flows_of sent.new ≡ flows_of sent.old }
+    ensures ok { OnOk result (sent.new ≡ sent.old ++ next ∷ []) }
+    ensures err { OnErr result (sent.new ≡ sent.old) }
+{
+    match sent.push(next) {
+        Ok(()) => Ok(()),
+        Err((refusal, _)) => Err(refusal),
+    }
+}
+
 /// The signals that were sent over links, in order.
 #[derive(Drop)]
 pub struct Sent {
-    sent: KeyedList<SentOver, SentKey>,
+    sent: KeyedList<SentOver, Flow>,
+    flows: KeyedList<Flow, FlowKey>,
 }
 
 impl Model for Sent {
-    ghost use Rattle.std.specs.Prelude.{List};
+    ghost use Rattle.std.specs.Prelude.{◌≡◌, List};
+    ghost use Rattle.link_tables.specs.Sent.{flows_of};
     ghost use Rattle.link_tables.specs.declared.sent.SentOver.{SentOver};
 
     ghost Value = { List SentOver };
 
     ghost view = { λ t. t.sent };
+
+    ghost invariant = { λ t. t.flows ≡ flows_of t.sent };
 }
 
 impl Sent {
@@ -150,6 +195,7 @@ impl Sent {
     {
         Sent {
             sent: KeyedList::new(alloc),
+            flows: KeyedList::new(alloc),
         }
     }
 
@@ -157,21 +203,33 @@ impl Sent {
     pub fn nth(&self, flow: Flow, k: usize) -> Option<&SigNote>
         ensures { option_copied result ≡ slice_get (notes_of flow self.now) k }
     {
-        note_in(self.sent.nth(flow_key(flow), k))
+        note_in(self.sent.nth(flow, k))
     }
 
-    /// Those that an endpoint sent in a session of a link, in order.
-    pub fn sent_from(&self, at: Inc, link: LinkNo, session: Session) -> SentUnder<'_>
-        ensures { result ≡ filter (λ s. is_from at link session s.flow) self.now }
+    /// The flows from an endpoint in a session of a link, each once, in the order of their first
+    /// signals.
+    pub fn flows_from(&self, at: Inc, link: LinkNo, session: Session) -> FlowsUnder<'_>
+        ensures { result ≡ filter (is_from at link session) (flows_of self.now) }
     {
-        self.sent.under(from_key(at, link, session))
+        self.flows.under(from_key(at, link, session))
     }
 
-    /// Those that were sent over a link, in order.
-    pub fn sent_over(&self, link: LinkNo) -> SentUnder<'_>
-        ensures { result ≡ filter (λ s. is_over link s.flow) self.now }
+    /// The flows in a session of a link, each once, in the order of their first signals.
+    pub fn flows_in(&self, link: LinkNo, session: Session) -> FlowsUnder<'_>
+        ensures { result ≡ filter (is_in link session) (flows_of self.now) }
     {
-        self.sent.under(over_key(link))
+        self.flows.under(in_key(link, session))
+    }
+
+    /// Adds a signal. A refusal changes nothing.
+    fn push(&mut self, sent: SentOver) -> Result<(), NoMemory>
+        ensures { OnOk result (self.new ≡ self.old ++ sent ∷ []) }
+    {
+        if self.flows.has(own_key(sent.flow)) {
+            push_next(&mut self.sent, sent)
+        } else {
+            push_first(&mut self.sent, &mut self.flows, sent)
+        }
     }
 
     /// Adds what was sent, if it is something.
@@ -180,10 +238,7 @@ impl Sent {
     {
         match sent {
             None => Ok(()),
-            Some(sent) => match self.sent.push(sent) {
-                Ok(()) => Ok(()),
-                Err((refusal, _)) => Err(refusal),
-            },
+            Some(sent) => self.push(sent),
         }
     }
 

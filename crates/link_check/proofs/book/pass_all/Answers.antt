@@ -1,7 +1,7 @@
 use Rattle.std.proofs.Common.{◌≡◌, ℕ, suc, ◌+◌, ◌<◌, length, Some, sym, ◌∙◌, ap, add-one, arith}
 use Rattle.std.proofs.Common.{get_or, rules, slice_get, subst}
 use Rattle.link_tables.specs.Sides.{HasRoom}
-use Rattle.link_check.specs.Lines.{LineSoFar, line_past_if}
+use Rattle.link_check.specs.Lines.{LineSoFar, line_after}
 use Rattle.link_check.proofs.Books.{is-get, length-set, pass-more, pass-rest, within}
 use Rattle.link_check.proofs.book.pass_all.Goals as goal
 
@@ -40,12 +40,12 @@ loop-place-preserved c =
     ≡ Some c.index-lines-place.result =
     is-get c.loop-place.lines c.loop-place.place c.index-lines-place.result less
     c.index-lines-place.is in
-    let is : c.pass.new.self ≡ line_past_if (suc c.loop-place.place) c.ends_at-ends.result.now
+    let is : c.pass.new.self ≡ line_after (suc c.loop-place.place) c.ends_at-ends.result.now
     c.args.step.now c.index-lines-place.result =
     c.in_ok-pass.ensures
-    ∙ ap (line_past_if (c.loop-place.place + 1) c.ends_at-ends.result.now c.args.step.now)
+    ∙ ap (line_after (c.loop-place.place + 1) c.ends_at-ends.result.now c.args.step.now)
     (sym c.index-lines-place.is)
-    ∙ ap (λ (k : ℕ). line_past_if k c.ends_at-ends.result.now c.args.step.now
+    ∙ ap (λ (k : ℕ). line_after k c.ends_at-ends.result.now c.args.step.now
     c.index-lines-place.result) (add-one c.loop-place.place) in
     record {
       counted = length-set c.loop-place.lines c.loop-place.place c.pass.new.self

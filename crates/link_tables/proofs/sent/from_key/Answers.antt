@@ -3,6 +3,6 @@ use Rattle.link_tables.proofs.sent.from_key.Goals as goal
 
 pub returns : goal.returns
 returns c =
-    λ s. alone (same_parts _ _ (same_number c.args.at.0 s.flow.at.0)
-    (same_parts _ _ (same_number c.args.link.0 s.flow.link.0)
-    (same_number c.args.session.0 s.flow.session.0)))
+    λ f. alone (same_parts _ _ (same_number c.args.at.0 f.at.0)
+    (same_parts _ _ (same_number c.args.link.0 f.link.0)
+    (same_number c.args.session.0 f.session.0)))

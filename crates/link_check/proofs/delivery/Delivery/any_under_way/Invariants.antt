@@ -4,10 +4,10 @@ use Rattle.link_check.specs.Stillness.{any_under_way, is_under_way}
 use Rattle.link_check.proofs.delivery.Delivery.any_under_way.Given as goal
 
 -- of those that are left one is under way exactly where one of all is
-abbrev pub invariant-loop-sent : goal.invariant-loop-sent
-invariant-loop-sent l =
-    list_any (is_under_way l.self l.across l.session l.other) l.left
-    ≡ any_under_way l.self l.across l.session l.other
+abbrev pub invariant-loop-flow : goal.invariant-loop-flow
+invariant-loop-flow l =
+    list_any (is_under_way l.self l.across l.session) l.left
+    ≡ any_under_way l.self l.across l.session l.fn.other
 
-abbrev pub decreases-loop-sent : goal.decreases-loop-sent
-decreases-loop-sent l = length l.left
+abbrev pub decreases-loop-flow : goal.decreases-loop-flow
+decreases-loop-flow l = length l.left
