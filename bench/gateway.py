@@ -15,9 +15,11 @@ what it says. Prints what each took.
 import concurrent.futures
 import contextlib
 import functools
+import os
 import pathlib
 import random
 import re
+import resource
 import shutil
 import socket
 import struct
@@ -41,6 +43,7 @@ PAGE = HERE.parent / "docs/use/gateway.md"
 SECONDS = 120
 CLIENTS = 4
 TIMER = 7
+SIGNAL = 80     # what a signal without data takes: itself, and the block that it shares with its notes
 
 
 class Taped:
@@ -354,12 +357,13 @@ def speed(program, count):
     with tempfile.TemporaryFile() as given:
         given.write(b"".join(parts))
         given.seek(0)
-        began = time.monotonic()
+        began, had = time.monotonic(), resource.getrusage(resource.RUSAGE_CHILDREN)
         ran = subprocess.run([program, "gateway", "1"], stdin=given, capture_output=True,
                              check=False)
-        took = time.monotonic() - began
-    print(f"{len(parts)} requests at once: {took:.2f} s, {len(ran.stdout)} bytes replied, "
-          f"{ran.stderr.decode().strip() or 'done'}")
+        took, has = time.monotonic() - began, resource.getrusage(resource.RUSAGE_CHILDREN)
+    used = has.ru_utime + has.ru_stime - had.ru_utime - had.ru_stime
+    print(f"{len(parts)} requests at once: {took:.2f} s, {used:.2f} s of a processor, "
+          f"{len(ran.stdout)} bytes replied, {ran.stderr.decode().strip() or 'done'}")
 
 
 def memory_of(ran):
@@ -368,32 +372,52 @@ def memory_of(ran):
     return int(re.search(r"VmHWM:\s*(\d+)", status)[1])
 
 
-def timed_writes(ran, parts):
-    """Writes requests, and waits until the program has taken them; how long that took."""
-    began = time.monotonic()
-    ran.stdin.write(b"".join(parts))
-    ran.stdin.flush()
-    ran.stdin.write(rules.request(rules.CANCEL, 1, bytes(8)))
-    ran.stdin.flush()
-    return time.monotonic() - began
+def processor_time(ran):
+    """How long a program had a processor so far."""
+    fields = pathlib.Path(f"/proc/{ran.pid}/stat").read_text().rsplit(")", 1)[1].split()
+    return (int(fields[11]) + int(fields[12])) / os.sysconf("SC_CLK_TCK")
+
+
+def exchanged(ran, parts, size):
+    """How long requests have a processor until so many bytes were replied."""
+    def write():
+        ran.stdin.write(b"".join(parts))
+        ran.stdin.flush()
+
+    writer = threading.Thread(target=write)
+    began = processor_time(ran)
+    writer.start()
+    while size > 0:
+        got = ran.stdout.read1(65_536)
+        if not got:
+            break
+        size -= len(got)
+    writer.join()
+    return processor_time(ran) - began
 
 
 def many_timers(program, count):
-    """How long so many timers take to request and to cancel, and the memory of each."""
-    requests = [rules.request(rules.TIMER, 1, struct.pack(">II", at * 7919 % count, TIMER))
-                for at in range(count)]
-    cancels = [rules.request(rules.CANCEL, 1, struct.pack(">Q", at + 1)) for at in range(count)]
+    """How long so many timers have a processor, each, to be requested, to send and to be cancelled,
+    and the memory of each beside its signal."""
+    moments = [at * 7919 % count for at in range(count)]
+    due = count // 10
+    requests = [rules.request(rules.TIMER, 1, struct.pack(">II", moment, TIMER))
+                for moment in moments]
+    cancels = [rules.request(rules.CANCEL, 1, struct.pack(">Q", at + 1))
+               for at, moment in enumerate(moments) if moment >= due]
     with subprocess.Popen([program, "gateway", "1"], stdin=subprocess.PIPE,
-                          stdout=subprocess.DEVNULL) as ran:
-        timed_writes(ran, [rules.request(rules.OPEN, 1, b"a")])
-        time.sleep(0.2)
+                          stdout=subprocess.PIPE) as ran:
+        exchanged(ran, [rules.request(rules.OPEN, 1, b"a")], 16)
         had = memory_of(ran)
-        requested = timed_writes(ran, requests)
+        requested = exchanged(ran, requests, 16 * count)
         took = memory_of(ran) - had
-        cancelled = timed_writes(ran, cancels)
+        struck = exchanged(ran, [rules.request(rules.CLOCK, 0, struct.pack(">Q", due - 1))], 12)
+        cancelled = exchanged(ran, cancels, 8 * len(cancels))
         ran.stdin.close()
-    print(f"{count} timers: {requested / count * 1e6:.2f} us to request and "
-          f"{cancelled / count * 1e6:.2f} us to cancel each, {took * 1024 / count:.0f} bytes each")
+    print(f"{count} timers: {requested / count * 1e6:.2f} us to request, "
+          f"{struck / due * 1e6:.2f} us to send when due and "
+          f"{cancelled / len(cancels) * 1e6:.2f} us to cancel each, "
+          f"{took * 1024 / count - SIGNAL:.0f} bytes each beside the {SIGNAL} of their signals")
 
 
 def main():

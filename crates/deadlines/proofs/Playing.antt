@@ -1,156 +1,167 @@
 -- The matches of a tournament.
-use Rattle.std.proofs.Common.{◌≡◌, ◌≢◌, ◌⊎◌, inl, inr, ℕ, zero, suc, ◌+◌, ◌*◌, ◌/◌, ◌%◌, ◌<◌, ◌≤◌}
-use Rattle.std.proofs.Common.{◌-◌, List, length, set, get_or-set_same, get_or-set_other, refl, ap}
-use Rattle.std.proofs.Common.{sym, subst, ◌∙◌, arith}
+use Rattle.std.proofs.Common.{◌≡◌, ◌≢◌, ◌⊎◌, inl, inr, ℕ, zero, suc, ◌+◌, ◌-◌, ◌*◌, ◌/◌, ◌<◌, ◌≤◌}
+use Rattle.std.proofs.Common.{true, false, true≢false, List, length, set, length-set, refl, ap, sym}
+use Rattle.std.proofs.Common.{subst, ◌∙◌, arith, Option, Some, None, nat_lt}
+use Rattle.std.proofs.Common.{get_or-set_same, get_or-set_other, slice_index_or}
 use Rattle.std.proofs.lemmas.Bool.{cases_Bool, cases_eq, cases_lt}
 use Rattle.std.proofs.lemmas.Bool.Decides.{nat_tests}
-use Rattle.deadlines.specs.declared.deadline.Leader.{Leader}
-use Rattle.deadlines.specs.Tournament.{leader_at, is_sooner, sooner, AreLed, nobody}
+use Rattle.deadlines.specs.declared.deadline.Deadline.{Deadline}
+use Rattle.deadlines.specs.Slots.{deadline_at}
+use Rattle.deadlines.specs.Tournament.{comes_first, leader_at, sooner, AreLed, IsPlayed}
 
--- each leader but one is the earlier of the two below it
-abbrev pub AreLedBut : ℕ → ℕ → List Leader → Type 0
-AreLedBut at width tree = (i : ℕ) → 0 < i → i < width → i ≢ at
-    → leader_at tree i ≡ sooner (leader_at tree (2 * i)) (leader_at tree (2 * i + 1))
+-- WHICH DEADLINE COMES FIRST
+pub first_itself : (a : Option Deadline) → comes_first a a ≡ true
+first_itself None = refl
+first_itself (Some a) = grind (arith, nat_tests)
 
-module _ (width at : ℕ) (tree : List Leader) (long : length tree ≡ 2 * width) where
-  -- a leaf is another one: the leader above it may be wrong
-  pub leaf_put : (leaf : Leader) → width ≤ at → at < 2 * width → AreLed width tree
-      → AreLedBut (at / 2) width (set tree at leaf)
-  leaf_put leaf high low led i positive below off =
-      let here : i ≢ at = omega arith in
-      let left : 2 * i ≢ at = omega arith in
-      let right : 2 * i + 1 ≢ at = omega arith in
-      get_or-set_other tree at i leaf nobody here ∙ led i positive below
-      ∙ ap (λ l. sooner l (leader_at tree (2 * i + 1)))
-      (sym (get_or-set_other tree at (2 * i) leaf nobody left))
-      ∙ ap (λ l. sooner (leader_at (set tree at leaf) (2 * i)) l)
-      (sym (get_or-set_other tree at (2 * i + 1) leaf nobody right))
+pub first_chain : (a b c : Option Deadline) → comes_first a b ≡ true → comes_first b c ≡ true
+    → comes_first a c ≡ true
+first_chain a b None one two = refl
+first_chain a None (Some c) one two = absurd (true≢false (sym two))
+first_chain None (Some b) (Some c) one two = absurd (true≢false (sym one))
+first_chain (Some a) (Some b) (Some c) one two = grind (arith, nat_tests)
 
-  -- a match is played: the leader above may be wrong
-  module _ (best : Leader)
-      (is : best ≡ sooner (leader_at tree (2 * at)) (leader_at tree (2 * at + 1)))
-      (above : 0 < at) (inside : at < width) (led : AreLedBut at width tree) where
-    after : List Leader
-    after = set tree at best
+pub first_other : (a b : Option Deadline) → comes_first a b ≡ false → comes_first b a ≡ true
+first_other a None not = absurd (true≢false not)
+first_other None (Some b) not = refl
+first_other (Some a) (Some b) not = grind (arith, nat_tests)
 
-    below_stay : (i : ℕ) → 2 * i ≢ at → 2 * i + 1 ≢ at
-        → sooner (leader_at tree (2 * i)) (leader_at tree (2 * i + 1))
-        ≡ sooner (leader_at (set tree at best) (2 * i)) (leader_at (set tree at best) (2 * i + 1))
-    below_stay i left right =
-        ap (λ l. sooner l (leader_at tree (2 * i + 1)))
-        (sym (get_or-set_other tree at (2 * i) best nobody left))
-        ∙ ap (λ l. sooner (leader_at (set tree at best) (2 * i)) l)
-        (sym (get_or-set_other tree at (2 * i + 1) best nobody right))
+module _ (slots : List (Option Deadline)) where
+  -- the sooner one comes before both
+  pub sooner_left : (a b : ℕ)
+      → comes_first (deadline_at slots (sooner slots a b)) (deadline_at slots a) ≡ true
+  sooner_left a b = elim (cases_Bool (comes_first (deadline_at slots a) (deadline_at slots b))) [
+    | inl is ↦ rw is (first_itself (deadline_at slots a))
+    | inr not ↦ rw not (first_other (deadline_at slots a) (deadline_at slots b) not)
+  ]
 
-    pub match_played : AreLedBut (at / 2) width (set tree at best)
-    match_played i positive below off = elim (cases_eq i at) [
-      | inl e ↦
-          let within : at < length tree = omega arith in
-          ap (leader_at (set tree at best)) e
-          ∙ get_or-set_same tree at best nobody within ∙ is
-          ∙ below_stay at (omega arith) (omega arith)
-          ∙ ap (λ k. sooner (leader_at (set tree at best) (2 * k))
-          (leader_at (set tree at best) (2 * k + 1))) (sym e)
-      | inr differs ↦
-          get_or-set_other tree at i best nobody differs ∙ led i positive below differs
-          ∙ below_stay i (omega arith) (omega arith)
-    ]
+  pub sooner_right : (a b : ℕ)
+      → comes_first (deadline_at slots (sooner slots a b)) (deadline_at slots b) ≡ true
+  sooner_right a b = elim (cases_Bool (comes_first (deadline_at slots a) (deadline_at slots b))) [
+    | inl is ↦ rw is is
+    | inr not ↦ rw not (first_itself (deadline_at slots b))
+  ]
 
-    pub leaves_stay : (i : ℕ) → width ≤ i
-        → leader_at (set tree at best) i ≡ leader_at tree i
-    leaves_stay i leaf = get_or-set_other tree at i best nobody (omega arith)
+  -- and is one of them
+  pub sooner_is : (a b : ℕ) → (sooner slots a b ≡ a) ⊎ (sooner slots a b ≡ b)
+  sooner_is a b = elim (cases_Bool (comes_first (deadline_at slots a) (deadline_at slots b))) [
+    | inl is ↦ rw is (inl refl)
+    | inr not ↦ rw not (inr refl)
+  ]
 
--- a is due no later than b, and where they are due together its ticket isn't behind
-pub record Precedes (a b : Leader) : Type 0 where
-  pub due : a.due ≤ b.due
-  pub ticket : a.due ≡ b.due → a.ticket ≤ b.ticket
+-- NODES
+-- the node so many steps above another
+abbrev pub node_above : ℕ → ℕ → ℕ
+node_above zero i = i
+node_above (suc steps) i = node_above steps (i / 2)
 
-pub Precedes_refl : (a : Leader) → Precedes a a
-Precedes_refl a = record { due = omega arith; ticket = λ same. omega arith }
+-- a node is another one, or stands above it
+pub record IsAtOrAbove (i other : ℕ) : Type 0 where
+  pub steps : ℕ
+  pub is : node_above steps other ≡ i
 
-pub Precedes_trans : (a b c : Leader) → Precedes a b → Precedes b c → Precedes a c
-Precedes_trans a b c one two = record {
-  due = omega (arith, one.due, two.due);
-  ticket = λ same.
-      let first : a.ticket ≤ b.ticket = one.ticket (omega (arith, one.due, two.due, same)) in
-      let second : b.ticket ≤ c.ticket = two.ticket (omega (arith, one.due, two.due, same)) in
-      omega arith;
+-- each leader is the earlier of the two below it, but perhaps this one and those above it
+abbrev pub AreLedBut : List (Option Deadline) → List ℕ → ℕ → Type 0
+AreLedBut slots tree at = (i : ℕ) → 0 < i → i < length tree → (IsAtOrAbove i at → ⊥)
+    → IsPlayed slots tree i
+
+pub leader_leaf : (tree : List ℕ) (i : ℕ) → length tree ≤ i → leader_at tree i ≡ i - length tree
+leader_leaf tree i leaf =
+    let behind : nat_lt i (length tree) ≡ false = grind (arith, nat_tests) in rw behind refl
+
+pub leader_inner : (tree : List ℕ) (i : ℕ) → i < length tree
+    → leader_at tree i ≡ slice_index_or tree i 0
+leader_inner tree i inner =
+    let inside : nat_lt i (length tree) ≡ true = grind (arith, nat_tests) in rw inside refl
+
+pub halves : (k j : ℕ) → node_above k (j / 2) ≡ node_above k j / 2
+halves zero j = refl
+halves (suc k) j = halves k (j / 2)
+
+-- above a node stands what is above the one below it
+pub above_both : (c j : ℕ) → IsAtOrAbove c j → IsAtOrAbove (c / 2) (j / 2)
+above_both c j is = record {
+  steps = is.steps;
+  is = halves is.steps j ∙ ap (λ n. n / 2) is.is;
 }
 
--- the earlier of two precedes both
-pub sooner_left : (a b : Leader) → Precedes (sooner a b) a
-sooner_left a b = elim (cases_Bool (is_sooner a b)) [
-  | inl is ↦ rw is (Precedes_refl a)
-  | inr not ↦ rw not (record {
-    due = grind (arith, nat_tests);
-    ticket = λ same. grind (arith, nat_tests);
-  })
-]
+pub above_one : (c j : ℕ) → IsAtOrAbove c j → IsAtOrAbove (c / 2) j
+above_one c j is = record {
+  steps = suc is.steps;
+  is = halves is.steps j ∙ ap (λ n. n / 2) is.is;
+}
 
-pub sooner_right : (a b : Leader) → Precedes (sooner a b) b
-sooner_right a b = elim (cases_Bool (is_sooner a b)) [
-  | inl is ↦ rw is (record {
-    due = grind (arith, nat_tests);
-    ticket = λ same. grind (arith, nat_tests);
-  })
-  | inr not ↦ rw not (Precedes_refl b)
-]
+pub one_step : (i j k : ℕ) → node_above k j ≡ i → i ≢ j → IsAtOrAbove i (j / 2)
+one_step i j zero is differs = absurd (differs (sym is))
+one_step i j (suc k) is differs = record { steps = k; is = is }
 
--- and it is one of them
-pub sooner_is : (a b : Leader) → (sooner a b ≡ a) ⊎ (sooner a b ≡ b)
-sooner_is a b = elim (cases_Bool (is_sooner a b)) [
-  | inl is ↦ rw is (inl refl)
-  | inr not ↦ rw not (inr refl)
-]
-
-module _ (width : ℕ) (tree : List Leader) (led : AreLed width tree) where
-  -- the first leader precedes all: `most` bounds the place
-  pub first_precedes : (most i : ℕ) → i ≤ most → 0 < i → i < 2 * width
-      → Precedes (leader_at tree 1) (leader_at tree i)
-  first_precedes zero i low above below = absurd (omega arith)
-  first_precedes (suc most) i low above below = elim (cases_eq i 1) [
-    | inl e ↦ subst (λ k. Precedes (leader_at tree 1) (leader_at tree k)) (sym e)
-        (Precedes_refl (leader_at tree 1))
-    | inr higher ↦
-        let up : Precedes (leader_at tree 1) (leader_at tree (i / 2)) =
-        first_precedes most (i / 2) (omega arith) (omega arith) (omega arith) in
-        let is = led (i / 2) (omega arith) (omega arith) in
-        Precedes_trans _ _ _ up (elim (cases_eq (i % 2) 0) [
-          | inl even ↦
-              let here : 2 * (i / 2) ≡ i = omega arith in
-              subst (λ k. Precedes (leader_at tree (i / 2)) (leader_at tree k)) here
-              (subst (λ l. Precedes l (leader_at tree (2 * (i / 2)))) (sym is)
-              (sooner_left (leader_at tree (2 * (i / 2))) (leader_at tree (2 * (i / 2) + 1))))
-          | inr odd ↦
-              let here : 2 * (i / 2) + 1 ≡ i = omega arith in
-              subst (λ k. Precedes (leader_at tree (i / 2)) (leader_at tree k)) here
-              (subst (λ l. Precedes l (leader_at tree (2 * (i / 2) + 1))) (sym is)
-              (sooner_right (leader_at tree (2 * (i / 2))) (leader_at tree (2 * (i / 2) + 1))))
-        ])
-  ]
-
-  -- each leader stands at a leaf
-  pub record IsLeaf (leader : Leader) : Type 0 where
-    pub slot : ℕ
-    pub inside : slot < width
-    pub is : leader ≡ leader_at tree (width + slot)
-
-  -- `more` bounds how far the place is from the last
-  pub leads_from_leaf : (more i : ℕ) → 2 * width ≤ i + more → 0 < i → i < 2 * width
-      → IsLeaf (leader_at tree i)
-  leads_from_leaf zero i far above below = absurd (omega arith)
-  leads_from_leaf (suc more) i far above below = elim (cases_lt i width) [
-    | inl inner ↦ elim (sooner_is (leader_at tree (2 * i)) (leader_at tree (2 * i + 1))) [
-      | inl left ↦ subst IsLeaf (sym (led i above inner ∙ left))
-          (leads_from_leaf more (2 * i) (omega arith) (omega arith) (omega arith))
-      | inr right ↦ subst IsLeaf (sym (led i above inner ∙ right))
-          (leads_from_leaf more (2 * i + 1) (omega arith) (omega arith) (omega arith))
-    ]
+-- A MATCH IS PLAYED
+module _ (slots : List (Option Deadline)) (tree : List ℕ) (node best : ℕ)
+    (is : best ≡ sooner slots (leader_at tree (2 * node)) (leader_at tree (2 * node + 1)))
+    (above : 0 < node) (inside : node < length tree) where
+  pub stays : (i : ℕ) → i ≢ node → leader_at (set tree node best) i ≡ leader_at tree i
+  stays i differs = elim (cases_lt i (length tree)) [
+    | inl inner ↦
+        leader_inner (set tree node best) i
+        (subst (λ n. i < n) (sym (length-set tree node best)) inner)
+        ∙ get_or-set_other tree node i best 0 differs ∙ sym (leader_inner tree i inner)
     | inr leaf ↦
-        let here : width + (i - width) ≡ i = omega arith in
-        record {
-          slot = i - width;
-          inside = omega arith;
-          is = ap (leader_at tree) (sym here);
-        }
+        leader_leaf (set tree node best) i
+        (subst (λ n. n ≤ i) (sym (length-set tree node best)) leaf)
+        ∙ ap (λ n. i - n) (length-set tree node best) ∙ sym (leader_leaf tree i leaf)
   ]
+
+  pub here : leader_at (set tree node best) node ≡ best
+  here =
+      leader_inner (set tree node best) node
+      (subst (λ n. node < n) (sym (length-set tree node best)) inside)
+      ∙ get_or-set_same tree node best 0 inside
+
+  same_below : (i : ℕ) → 2 * i ≢ node → 2 * i + 1 ≢ node
+      → sooner slots (leader_at tree (2 * i)) (leader_at tree (2 * i + 1))
+      ≡ sooner slots (leader_at (set tree node best) (2 * i))
+      (leader_at (set tree node best) (2 * i + 1))
+  same_below i left right =
+      ap (λ l. sooner slots l (leader_at tree (2 * i + 1))) (sym (stays (2 * i) left))
+      ∙ ap (λ l. sooner slots (leader_at (set tree node best) (2 * i)) l)
+      (sym (stays (2 * i + 1) right))
+
+  pub played_here : IsPlayed slots (set tree node best) node
+  played_here = here ∙ is ∙ same_below node (omega arith) (omega arith)
+
+  pub played_other : (i : ℕ) → i ≢ node → 2 * i ≢ node → 2 * i + 1 ≢ node
+      → IsPlayed slots tree i → IsPlayed slots (set tree node best) i
+  played_other i differs left right was = stays i differs ∙ was ∙ same_below i left right
+
+  -- on the way up
+  pub played_up : AreLedBut slots tree node → AreLedBut slots (set tree node best) (node / 2)
+  played_up led i positive below off = elim (cases_eq i node) [
+    | inl e ↦ subst (IsPlayed slots (set tree node best)) (sym e) played_here
+    | inr differs ↦
+        played_other i differs
+        (λ left. off (record { steps = 0; is = omega (arith, left) }))
+        (λ right. off (record { steps = 0; is = omega (arith, right) }))
+        (led i positive (subst (λ n. i < n) (length-set tree node best) below)
+        (λ up. off (one_step i node up.steps up.is differs)))
+  ]
+
+  -- and from the last one down
+  pub played_down : ((i : ℕ) → node < i → i < length tree → IsPlayed slots tree i)
+      → (i : ℕ) → node ≤ i → i < length (set tree node best)
+      → IsPlayed slots (set tree node best) i
+  played_down led i from below = elim (cases_eq i node) [
+    | inl e ↦ subst (IsPlayed slots (set tree node best)) (sym e) played_here
+    | inr differs ↦
+        played_other i differs (omega arith) (omega arith)
+        (led i (omega arith) (subst (λ n. i < n) (length-set tree node best) below))
+  ]
+
+-- all have played once the way up is at its end
+pub all_played : (slots : List (Option Deadline)) (tree : List ℕ) (at : ℕ) → at ≡ 0
+    → AreLedBut slots tree at → AreLed slots tree
+all_played slots tree at done led i positive below =
+    led i positive below (λ up. absurd (omega (arith, positive, none up.steps at done ∙ up.is)))
+  where
+    none : (k j : ℕ) → j ≡ 0 → 0 ≡ node_above k j
+    none zero j is = sym is
+    none (suc k) j is = none k (j / 2) (omega (arith, is))

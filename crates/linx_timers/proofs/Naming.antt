@@ -12,7 +12,8 @@ use Rattle.linx_base.specs.FirstMatch.{first_match}
 use Rattle.sorted_set.specs.Sorted.{Ascends}
 use Rattle.linx_timers.specs.declared.entry.Entry.{Entry}
 use Rattle.linx_timers.specs.declared.entry.Name.{Name}
-use Rattle.linx_timers.specs.Entries.{has_reference, is_of, name_of, name_cmp, IsAmong}
+use Rattle.linx_timers.specs.Entries.{has_reference, is_of, last_reference, name_of, name_cmp}
+use Rattle.linx_timers.specs.Entries.{IsAmong}
 
 same_number : (t : ℕ) → nat_cmp t t ≡ Equal
 same_number t = sym (nat_cmp_is t t Equal refl)
@@ -48,30 +49,30 @@ abbrev by_ticket : Name → Name → Ordering
 by_ticket a b = ordering_then (nat_cmp a.ticket b.ticket) (by_slot a b)
 
 abbrev by_reference : Name → Name → Ordering
-by_reference a b = ordering_then (nat_cmp a.reference b.reference) (by_ticket a b)
+by_reference a b = ordering_then (nat_cmp b.reference a.reference) (by_ticket a b)
 
 abbrev make : ℕ → ℕ → ℕ → ℕ → Name
 make client reference ticket slot = record {
   client = client;
+  slot = slot;
   reference = reference;
   ticket = ticket;
-  slot = slot;
 }
 
 pub same_name : (a b : Name) → name_cmp a b ≡ Equal → a ≡ b
 same_name a b is =
     let one = equal_then (nat_cmp a.client b.client) (by_reference a b) is in
-    let two = equal_then (nat_cmp a.reference b.reference) (by_ticket a b) one.1 in
+    let two = equal_then (nat_cmp b.reference a.reference) (by_ticket a b) one.1 in
     let three = equal_then (nat_cmp a.ticket b.ticket) (by_slot a b) two.1 in
     ap (λ c. make c a.reference a.ticket a.slot) (number a.client b.client one.0)
-    ∙ ap (λ r. make b.client r a.ticket a.slot) (number a.reference b.reference two.0)
+    ∙ ap (λ r. make b.client r a.ticket a.slot) (sym (number b.reference a.reference two.0))
     ∙ ap (λ t. make b.client b.reference t a.slot) (number a.ticket b.ticket three.0)
     ∙ ap (λ s. make b.client b.reference b.ticket s) (number a.slot b.slot three.1)
 
 -- what holds of a name that isn't above another
 pub record AtMost (a b : Name) : Type 0 where
   pub client : a.client ≤ b.client
-  pub reference : a.client ≡ b.client → a.reference ≤ b.reference
+  pub reference : a.client ≡ b.client → b.reference ≤ a.reference
   pub ticket : a.client ≡ b.client → a.reference ≡ b.reference → a.ticket ≤ b.ticket
 
 pub at_most : (a b : Name) → is_le (name_cmp a b) ≡ true → AtMost a b
@@ -85,16 +86,16 @@ at_most a b le = elim (le_then (nat_cmp a.client b.client) (by_reference a b) le
       }
   | inr both ↦
       let client : a.client ≡ b.client = number a.client b.client both.0 in
-      elim (le_then (nat_cmp a.reference b.reference) (by_ticket a b) both.1) [
+      elim (le_then (nat_cmp b.reference a.reference) (by_ticket a b) both.1) [
         | inl less ↦
-            let reference : a.reference < b.reference = below a.reference b.reference less in
+            let reference : b.reference < a.reference = below b.reference a.reference less in
             record {
               client = omega arith;
               reference = λ same. omega arith;
               ticket = λ same also. omega arith;
             }
         | inr rest ↦
-            let reference : a.reference ≡ b.reference = number a.reference b.reference rest.0 in
+            let reference : b.reference ≡ a.reference = number b.reference a.reference rest.0 in
             elim (le_then (nat_cmp a.ticket b.ticket) (by_slot a b) rest.1) [
               | inl less ↦
                   let ticket : a.ticket < b.ticket = below a.ticket b.ticket less in
@@ -124,17 +125,17 @@ low x = by (nat_cmp 0 x) refl
     by Greater is =
         let under : x < 0 = ranked 0 x Greater (sym is) in absurd (omega (arith, under))
 
-low_then : (x : ℕ) (o : Ordering) → is_le o ≡ true → is_le (ordering_then (nat_cmp 0 x) o) ≡ true
-low_then x o rest = by (nat_cmp 0 x) refl
+le_of : (x y : ℕ) → x ≤ y → (o : Ordering) → is_le o ≡ true
+    → is_le (ordering_then (nat_cmp x y) o) ≡ true
+le_of x y up o rest = by (nat_cmp x y) refl
   where
-    by : (p : Ordering) → nat_cmp 0 x ≡ p → is_le (ordering_then p o) ≡ true
+    by : (p : Ordering) → nat_cmp x y ≡ p → is_le (ordering_then p o) ≡ true
     by Less is = refl
     by Equal is = rest
-    by Greater is =
-        let under : x < 0 = ranked 0 x Greater (sym is) in absurd (omega (arith, under))
+    by Greater is = let under : y < x = ranked x y Greater (sym is) in absurd (omega (arith, up, under))
 
 abbrev pub least : ℕ → ℕ → Name
-least client reference = record { client = client; reference = reference; ticket = 0; slot = 0 }
+least client reference = record { client = client; slot = 0; reference = reference; ticket = 0 }
 
 pub parts_of : (client reference : ℕ) (e : Entry) → has_reference client reference e ≡ true
     → (client ≡ e.client) × (reference ≡ e.reference)
@@ -153,15 +154,16 @@ pub least_of : (client reference : ℕ) (e : Entry) → has_reference client ref
 least_of client reference e is =
     let parts = parts_of client reference e is in
     rw (parts.0, parts.1)
-    (rw (same_number e.client, same_number e.reference) (low_then e.ticket (nat_cmp 0 e.slot)
-    (low e.slot)))
+    (rw (same_number e.client, same_number e.reference) (le_of 0 e.ticket (omega arith)
+    (nat_cmp 0 e.slot) (low e.slot)))
 
-pub least_of_client : (client : ℕ) (e : Entry) → is_of client e ≡ true
-    → is_le (name_cmp (least client 0) (name_of e)) ≡ true
-least_of_client client e is =
+pub least_of_client : (client : ℕ) (e : Entry) → e.reference ≤ last_reference
+    → is_of client e ≡ true → is_le (name_cmp (least client last_reference) (name_of e)) ≡ true
+least_of_client client e bound is =
     rw (client_of client e is)
-    (rw (same_number e.client) (low_then e.reference (ordering_then (nat_cmp 0 e.ticket)
-    (nat_cmp 0 e.slot)) (low_then e.ticket (nat_cmp 0 e.slot) (low e.slot))))
+    (rw (same_number e.client) (le_of e.reference last_reference bound
+    (ordering_then (nat_cmp 0 e.ticket) (nat_cmp 0 e.slot)) (le_of 0 e.ticket (omega arith)
+    (nat_cmp 0 e.slot) (low e.slot))))
 
 -- NAMES THAT ASCEND
 pub all_among : (P : Name → Type 0) (ns : List Name) (y : Name) → AllByRecursion P ns

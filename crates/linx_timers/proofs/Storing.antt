@@ -16,8 +16,8 @@ use Rattle.keyed_list.proofs.Entries.{first_passing}
 use Rattle.sorted_set.specs.Sorted.{Ascends, elements_from}
 use Rattle.linx_timers.specs.declared.entry.Entry.{Entry}
 use Rattle.linx_timers.specs.declared.entry.Name.{Name}
-use Rattle.linx_timers.specs.Entries.{at_slot, entry_at, has_reference, is_of, name_cmp, name_of}
-use Rattle.linx_timers.specs.Entries.{HasName, IsAmong, IsFound, IsFoundOf, IsStored}
+use Rattle.linx_timers.specs.Entries.{at_slot, entry_at, has_reference, is_of, last_reference}
+use Rattle.linx_timers.specs.Entries.{name_cmp, name_of, HasName, IsAmong, IsFound, IsFoundOf, IsStored}
 use Rattle.linx_timers.proofs.Naming.{at_most, client_of, first_least, first_none, least}
 use Rattle.linx_timers.proofs.Naming.{least_of, least_of_client, name_same, parts_of, reaches}
 use Rattle.linx_timers.proofs.Naming.{same_name, AtMost}
@@ -228,6 +228,7 @@ module _ (places : List (Option Entry)) (names : List Name) (es : List Entry)
         (without_match (at_slot slot) es)
     taken within up = record {
       rising = rising_without (at_slot slot) es stored.rising;
+      bounded = all_without (λ f. f.reference ≤ last_reference) (at_slot slot) es stored.bounded;
       kept = all_by (λ f. (f.slot ≢ slot) × (entry_at places f.slot ≡ Some f))
           (λ f. entry_at (set places slot None) f.slot ≡ Some f)
           (without_match (at_slot slot) es)
@@ -290,73 +291,76 @@ module _ (places : List (Option Entry)) (names : List Name) (es : List Entry)
 
   -- AN ENTRY ADDED, where its slot has a place
   module _ (e : Entry) (above : AllByRecursion (λ f. f.ticket < e.ticket) es)
-      (apart : AllByRecursion (λ f. f.slot ≢ e.slot) es) where
-    pub added : e.slot < length places → Ascends name_cmp (insert_key name_cmp names (name_of e))
-        → IsStored (set places e.slot (Some e)) (insert_key name_cmp names (name_of e))
-        (es ++ e ∷ [])
-    added within up = record {
-      rising = rising_push es e stored.rising above;
-      kept = all_push (λ f. entry_at (set places e.slot (Some e)) f.slot ≡ Some f) es e
-          (all_by (λ f. (f.slot ≢ e.slot) × (entry_at places f.slot ≡ Some f))
-          (λ f. entry_at (set places e.slot (Some e)) f.slot ≡ Some f) es
-          (λ f both. get_or-set_other places e.slot f.slot (Some e) None both.0 ∙ both.1)
-          (all_both (λ f. f.slot ≢ e.slot) (λ f. entry_at places f.slot ≡ Some f) es apart
-          stored.kept))
-          (get_or-set_same places e.slot (Some e) None within);
-      filled = λ s f at. elim (cases_eq s e.slot) [
-        | inl same ↦
-            let now : Some e ≡ Some f =
-            sym (get_or-set_same places e.slot (Some e) None within)
-            ∙ ap (entry_at (set places e.slot (Some e))) (sym same) ∙ at in
-            let equal : e ≡ f = cc in
-            subst (λ g. first_match (at_slot s) (es ++ e ∷ []) ≡ Some g) equal
-            (first_last (at_slot s) es e (all_by (λ g. g.slot ≢ e.slot)
-            (λ g. at_slot s g ≡ false) es (λ g off. not_at s g (λ k. off (k ∙ same))) apart)
-            (at_here s same))
-        | inr off ↦
-            first_push (at_slot s) es e f (stored.filled s f
-            (sym (get_or-set_other places e.slot s (Some e) None off) ∙ at))
-      ];
-      named = all_push (λ f. IsAmong (insert_key name_cmp names (name_of e)) (name_of f)) es e
-          (all_by (λ f. IsAmong names (name_of f))
-          (λ f. IsAmong (insert_key name_cmp names (name_of e)) (name_of f)) es
-          (λ f among. among_more names (name_of e) (name_of f) among) stored.named)
-          (among_new names (name_of e));
-      real = all_more (HasName (set places e.slot (Some e))) names (name_of e)
-          (by_name names stored.real) (record {
-            entry = e;
-            at = get_or-set_same places e.slot (Some e) None within;
-            named = refl;
-          });
-      ascending = up;
-    }
-      where
-        at_here : (s : ℕ) → s ≡ e.slot → at_slot s e ≡ true
-        at_here s same = grind (arith, nat_tests)
+      (apart : AllByRecursion (λ f. f.slot ≢ e.slot) es) (bound : e.reference ≤ last_reference)
+    where
+      pub added : e.slot < length places → Ascends name_cmp (insert_key name_cmp names (name_of e))
+          → IsStored (set places e.slot (Some e)) (insert_key name_cmp names (name_of e))
+          (es ++ e ∷ [])
+      added within up = record {
+        rising = rising_push es e stored.rising above;
+        bounded = all_push (λ f. f.reference ≤ last_reference) es e stored.bounded bound;
+        kept = all_push (λ f. entry_at (set places e.slot (Some e)) f.slot ≡ Some f) es e
+            (all_by (λ f. (f.slot ≢ e.slot) × (entry_at places f.slot ≡ Some f))
+            (λ f. entry_at (set places e.slot (Some e)) f.slot ≡ Some f) es
+            (λ f both. get_or-set_other places e.slot f.slot (Some e) None both.0 ∙ both.1)
+            (all_both (λ f. f.slot ≢ e.slot) (λ f. entry_at places f.slot ≡ Some f) es apart
+            stored.kept))
+            (get_or-set_same places e.slot (Some e) None within);
+        filled = λ s f at. elim (cases_eq s e.slot) [
+          | inl same ↦
+              let now : Some e ≡ Some f =
+              sym (get_or-set_same places e.slot (Some e) None within)
+              ∙ ap (entry_at (set places e.slot (Some e))) (sym same) ∙ at in
+              let equal : e ≡ f = cc in
+              subst (λ g. first_match (at_slot s) (es ++ e ∷ []) ≡ Some g) equal
+              (first_last (at_slot s) es e (all_by (λ g. g.slot ≢ e.slot)
+              (λ g. at_slot s g ≡ false) es (λ g off. not_at s g (λ k. off (k ∙ same))) apart)
+              (at_here s same))
+          | inr off ↦
+              first_push (at_slot s) es e f (stored.filled s f
+              (sym (get_or-set_other places e.slot s (Some e) None off) ∙ at))
+        ];
+        named = all_push (λ f. IsAmong (insert_key name_cmp names (name_of e)) (name_of f)) es e
+            (all_by (λ f. IsAmong names (name_of f))
+            (λ f. IsAmong (insert_key name_cmp names (name_of e)) (name_of f)) es
+            (λ f among. among_more names (name_of e) (name_of f) among) stored.named)
+            (among_new names (name_of e));
+        real = all_more (HasName (set places e.slot (Some e))) names (name_of e)
+            (by_name names stored.real) (record {
+              entry = e;
+              at = get_or-set_same places e.slot (Some e) None within;
+              named = refl;
+            });
+        ascending = up;
+      }
+        where
+          at_here : (s : ℕ) → s ≡ e.slot → at_slot s e ≡ true
+          at_here s same = grind (arith, nat_tests)
 
-        one : (n : Name) → HasName places n → HasName (set places e.slot (Some e)) n
-        one n has =
-            let off : n.slot ≢ e.slot = λ same.
-            let found = stored.filled n.slot has.entry has.at in
-            all_first (λ f. f.slot ≢ e.slot) (at_slot n.slot) es has.entry apart found
-            (sym (slot_of n.slot has.entry (first_passes (at_slot n.slot) es has.entry found))
-            ∙ same) in
-            record {
-              entry = has.entry;
-              at = get_or-set_other places e.slot n.slot (Some e) None off ∙ has.at;
-              named = has.named;
-            }
+          one : (n : Name) → HasName places n → HasName (set places e.slot (Some e)) n
+          one n has =
+              let off : n.slot ≢ e.slot = λ same.
+              let found = stored.filled n.slot has.entry has.at in
+              all_first (λ f. f.slot ≢ e.slot) (at_slot n.slot) es has.entry apart found
+              (sym (slot_of n.slot has.entry (first_passes (at_slot n.slot) es has.entry found))
+              ∙ same) in
+              record {
+                entry = has.entry;
+                at = get_or-set_other places e.slot n.slot (Some e) None off ∙ has.at;
+                named = has.named;
+              }
 
-        by_name : (ns : List Name) → AllByRecursion (HasName places) ns
-            → AllByRecursion (HasName (set places e.slot (Some e))) ns
-        by_name [] all = tt
-        by_name (n ∷ ns) all = (one n all.0, by_name ns all.1)
+          by_name : (ns : List Name) → AllByRecursion (HasName places) ns
+              → AllByRecursion (HasName (set places e.slot (Some e))) ns
+          by_name [] all = tt
+          by_name (n ∷ ns) all = (one n all.0, by_name ns all.1)
 
   -- other places, of which each has what it had
   pub replaced : (more : List (Option Entry)) → ((s : ℕ) → entry_at more s ≡ entry_at places s)
       → IsStored more names es
   replaced more same = record {
     rising = stored.rising;
+    bounded = stored.bounded;
     kept = all_by (λ e. entry_at places e.slot ≡ Some e) (λ e. entry_at more e.slot ≡ Some e) es
         (λ e kept. same e.slot ∙ kept) stored.kept;
     filled = λ s e at. stored.filled s e (sym (same s) ∙ at);
@@ -376,6 +380,11 @@ module _ (places : List (Option Entry)) (names : List Name) (es : List Entry)
         },
         by_name ns all.1,
       )
+
+  named_bounded : AllByRecursion (λ f. IsAmong names (name_of f) × (f.reference ≤ last_reference))
+      es
+  named_bounded = all_both (λ f. IsAmong names (name_of f)) (λ f. f.reference ≤ last_reference) es
+      stored.named stored.bounded
 
   -- AN ENTRY IS FOUND by the first name from the least one on
   module _ (n : Name) (from : Name) (some : first_match (reaches from) names ≡ Some n) where
@@ -451,7 +460,7 @@ module _ (places : List (Option Entry)) (names : List Name) (es : List Entry)
             | inr miss ↦ miss
           ]) stored.named)).0
 
-    module _ (client : ℕ) (is : from ≡ least client 0) where
+    module _ (client : ℕ) (is : from ≡ least client last_reference) where
       pub found_of : n.client ≡ client → IsFoundOf client es n.slot
       found_of client_is =
           let one : has.entry.client ≡ n.client = ap (λ (m : Name). m.client) has.named in
@@ -459,19 +468,21 @@ module _ (places : List (Option Entry)) (names : List Name) (es : List Entry)
 
       pub other_of : n.client ≢ client → first_match (is_of client) es ≡ None
       other_of differs =
-          (none_passes (is_of client) es (all_by (λ f. IsAmong names (name_of f))
+          (none_passes (is_of client) es (all_by
+          (λ f. IsAmong names (name_of f) × (f.reference ≤ last_reference))
           (λ f. is_of client f ≡ false) es
-          (λ f among. elim (cases_Bool (is_of client f)) [
+          (λ f both. elim (cases_Bool (is_of client f)) [
             | inl hit ↦
                 let owner = client_of client f hit in
                 let reach : is_le (name_cmp from (name_of f)) ≡ true =
                 subst (λ k. is_le (name_cmp k (name_of f)) ≡ true) (sym is)
-                (least_of_client client f hit) in
-                let up = before f among reach in
-                let down : AtMost (least client 0) n = subst (λ k. AtMost k n) is from_on in
+                (least_of_client client f both.1 hit) in
+                let up = before f both.0 reach in
+                let down : AtMost (least client last_reference) n =
+                subst (λ k. AtMost k n) is from_on in
                 absurd (differs (omega (arith, up.client, down.client, owner)))
             | inr miss ↦ miss
-          ]) stored.named)).0
+          ]) named_bounded)).0
 
   -- there is none where no name is
   module _ (from : Name) (none : first_match (reaches from) names ≡ None) where
@@ -488,17 +499,19 @@ module _ (places : List (Option Entry)) (names : List Name) (es : List Entry)
           | inr miss ↦ miss
         ]) stored.named)).0
 
-    pub missing_of : (client : ℕ) → from ≡ least client 0 → first_match (is_of client) es ≡ None
+    pub missing_of : (client : ℕ) → from ≡ least client last_reference
+        → first_match (is_of client) es ≡ None
     missing_of client is =
-        (none_passes (is_of client) es (all_by (λ f. IsAmong names (name_of f))
+        (none_passes (is_of client) es (all_by
+        (λ f. IsAmong names (name_of f) × (f.reference ≤ last_reference))
         (λ f. is_of client f ≡ false) es
-        (λ f among. elim (cases_Bool (is_of client f)) [
+        (λ f both. elim (cases_Bool (is_of client f)) [
           | inl hit ↦
-              absurd (first_none from names (name_of f) none among
+              absurd (first_none from names (name_of f) none both.0
               (subst (λ k. is_le (name_cmp k (name_of f)) ≡ true) (sym is)
-              (least_of_client client f hit)))
+              (least_of_client client f both.1 hit)))
           | inr miss ↦ miss
-        ]) stored.named)).0
+        ]) named_bounded)).0
 
 -- the first element from a bound on
 pub first_from : (from : Name) (names : List Name) (o : Option Name)

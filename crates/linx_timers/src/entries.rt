@@ -1,10 +1,11 @@
 //! The entries of timers: each stands at the place of its deadline's slot, and is found by its name.
 //! Contracts see their list in order of request, of which nothing but what was told is kept.
-ghost use Rattle.std.specs.Prelude.{◌≡◌, ◌≢◌, ◌<◌, ℕ, [], ◌∷◌, ◌++◌, None, length, OnOk, OnErr};
+ghost use Rattle.std.specs.Prelude.{◌≡◌, ◌≢◌, ◌<◌, ◌≤◌, ℕ, [], ◌∷◌, ◌++◌, None, length, OnOk, OnErr};
 ghost use Rattle.std.specs.Prelude.{IfErr, IfSome, IfNone};
 ghost use Rattle.std.specs.List.{AllByRecursion};
 ghost use Rattle.linx_base.specs.FirstMatch.{first_match, without_match};
-ghost use Rattle.linx_timers.specs.Entries.{at_slot, has_reference, is_of, entry_at, listed};
+ghost use Rattle.linx_timers.specs.Entries.{at_slot, has_reference, is_of, last_reference};
+ghost use Rattle.linx_timers.specs.Entries.{entry_at, listed};
 ghost use Rattle.linx_timers.specs.Entries.{IsFound, IsFoundOf};
 
 use crate::entry::{Entry, Name};
@@ -27,7 +28,7 @@ enum Told {
     },
     /// The one in a slot was taken out.
     Less {
-        slot: usize,
+        slot: u32,
         before: Snapshot<Told>,
     },
 }
@@ -68,18 +69,18 @@ fn more(before: Snapshot<Told>, entry: &Entry) -> Snapshot<Told>
 }
 
 /// The entries but the one in a slot.
-fn less(before: Snapshot<Told>, slot: usize) -> Snapshot<Told>
+fn less(before: Snapshot<Told>, slot: u32) -> Snapshot<Told>
     ensures { listed result.value ≡ without_match (at_slot slot) (listed before.value) }
 {
     Snapshot::of(&Told::Less { slot, before })
 }
 
 /// Makes a place for the entry of a slot.
-fn make_place(places: &mut Vec<Option<Entry>>, slot: usize) -> Result<(), NoMemory>
+fn make_place(places: &mut Vec<Option<Entry>>, slot: u32) -> Result<(), NoMemory>
     ensures room { OnOk result (slot < length places.new.items) }
     ensures same { (s : ℕ) → entry_at places.new.items s ≡ entry_at places.old.items s }
 {
-    'room: while places.len() <= slot {
+    'room: while places.len() <= slot as usize {
         places.push(None)?;
     }
     Ok(())
@@ -102,6 +103,7 @@ impl Entries {
     pub(crate) fn push(&mut self, entry: Entry) -> Result<(), (NoMemory, Entry)>
         requires above { AllByRecursion (λ f. f.ticket < entry.ticket) self.old }
         requires apart { AllByRecursion (λ f. f.slot ≢ entry.slot) self.old }
+        requires bounded { entry.reference ≤ last_reference }
         ensures ok { OnOk result (self.new ≡ self.old ++ entry ∷ []) }
         ensures err { OnErr result (self.new ≡ self.old) }
         ensures given_back { IfErr result (λ back. back.1 ≡ entry) }
@@ -115,19 +117,19 @@ impl Entries {
         }
         let before = mem::replace(&mut self.told, none());
         self.told = more(before, &entry);
-        self.places[slot] = Some(entry);
+        self.places[slot as usize] = Some(entry);
         Ok(())
     }
 
     /// Takes out the entry in a slot. It takes no memory.
-    pub(crate) fn take(&mut self, slot: usize) -> Option<Entry>
+    pub(crate) fn take(&mut self, slot: u32) -> Option<Entry>
         ensures first { result ≡ first_match (at_slot slot) self.old }
         ensures others { self.new ≡ without_match (at_slot slot) self.old }
     {
-        if slot >= self.places.len() {
+        if slot as usize >= self.places.len() {
             return None;
         }
-        let entry = self.places[slot].take()?;
+        let entry = self.places[slot as usize].take()?;
         self.names.remove(&entry.name());
         let before = mem::replace(&mut self.told, none());
         self.told = less(before, slot);
@@ -135,15 +137,15 @@ impl Entries {
     }
 
     /// The slot of the first entry of a client with this reference.
-    pub(crate) fn find(&self, client: u32, reference: u64) -> Option<usize>
+    pub(crate) fn find(&self, client: u32, reference: u64) -> Option<u32>
         ensures found { IfSome result (IsFound client reference self.now) }
         ensures none { IfNone result (first_match (has_reference client reference) self.now ≡ None) }
     {
         let least = Name {
             client,
+            slot: 0,
             reference,
             ticket: 0,
-            slot: 0,
         };
         let name = self.names.nth_from(&least, 0)?;
         if name.client != client {
@@ -156,15 +158,15 @@ impl Entries {
     }
 
     /// The slot of an entry of a client.
-    pub(crate) fn find_of(&self, client: u32) -> Option<usize>
+    pub(crate) fn find_of(&self, client: u32) -> Option<u32>
         ensures found { IfSome result (IsFoundOf client self.now) }
         ensures none { IfNone result (first_match (is_of client) self.now ≡ None) }
     {
         let least = Name {
             client,
-            reference: 0,
-            ticket: 0,
             slot: 0,
+            reference: u64::MAX,
+            ticket: 0,
         };
         let name = self.names.nth_from(&least, 0)?;
         if name.client != client {

@@ -24,6 +24,7 @@ invariant_of-self-2 c =
     c.requires.above)
     (subst (AllByRecursion (λ (f : Entry). f.slot ≢ entry.slot)) (sym c.self.view_is)
     c.requires.apart)
+    c.requires.bounded
     c.in_default.ensures.room (subst (Ascends name_cmp) names_is c.insert.ensures.ascending) in
     subst (λ ns. IsStored (set places entry.slot (Some entry)) ns (listed c.more.result.value))
     (sym names_is)
