@@ -1,7 +1,8 @@
 #!/usr/bin/env python3
-"""Draws the chart of a printed text by itself, as SVG: what `journal_charts` is judged by.
+"""Draws the chart of a printed text by itself, as SVG: what `journal_charts` is judged by. A script, and
+a line `text`, may stand before it.
 
-    bench/try charts [plain] [steps A B] < TEXT > CHART.svg
+    bench/try charts [plain] [fold] [steps A B] [of M,..] < TEXT > CHART.svg
 """
 import re
 import sys
@@ -21,17 +22,19 @@ class Line:
         self.kind = self.words[0]
         self.row = self.x = self.at = 0
         self.seen = True
-        self.told = self.turned = False
-        self.column = NOWHERE
+        self.told = self.turned = self.folded = False
+        self.column = self.to = NOWHERE
+        self.run = [self]
 
 
 class Run:
-    """What a text says."""
+    """What a text says, behind a script or alone."""
 
     def __init__(self, text):
+        self.script, text = parted(text)
         lines = text.split("\n")[:-1]
         at = next(k for k, line in enumerate(lines) if line.startswith("journal "))
-        self.node_names, self.link_names = names_of(lines)
+        self.node_names, self.link_names = names_of(lines) if self.script is None else declared(self.script)
         self.lines, self.heads = [], {}
         for line in lines[at + 1:]:
             if line.startswith("+ "):
@@ -49,6 +52,8 @@ class Run:
             if line.place and line.kind == "opened":
                 self.opener[line.words[1]] = line.maker
             line.column = self.column(line)
+            if line.place == 0 and line.kind == "send":
+                line.to = life(self.opener.get(line.words[1].split(":")[-1], "P"))
 
     def node(self, name):
         """The number of a node's name."""
@@ -64,15 +69,14 @@ class Run:
         if line.place == 0:
             if line.kind in ("wire", "tick"):
                 return ("lane", self.link(words[1]), words[2])
-            return ("life", int(line.maker[1:])) if line.maker[0] == "A" else NOWHERE
+            return life(line.maker)
         if line.kind in ("up", "down"):
             return ("rail", self.link(words[2]), self.node(words[1]))
         if line.kind in ("met", "gone"):
             if ":" not in words[2]:
                 return NOWHERE
             return ("rail", self.link(words[2].split(":")[0]), self.node(words[1]))
-        maker = self.opener.get(words[1], "P")
-        return ("life", int(maker[1:])) if maker[0] == "A" else NOWHERE
+        return life(self.opener.get(words[1], "P"))
 
     def is_of_link(self, line, number):
         """Whether a line's mark is in a link's lane or on a rail of it, or cuts or mends it."""
@@ -87,6 +91,28 @@ class Run:
         if head is None or place > len(head.effects):
             return None
         return head if place == 0 else head.effects[place - 1]
+
+
+def life(maker):
+    """The column of a maker."""
+    return ("life", int(maker[1:])) if maker[0] == "A" else NOWHERE
+
+
+def parted(text):
+    """The script before a line `text`, None where there is no such line; and the printed text."""
+    at = 0 if text.startswith("text\n") else text.find("\ntext\n") + 1
+    return (text[:at], text[at + 5:]) if at or text.startswith("text\n") else (None, text)
+
+
+def statements(script, kind):
+    """The words behind this one, of each line of a script that it begins."""
+    lines = [line.split("#")[0].split() for line in script.split("\n")]
+    return [words[1:] for words in lines if words[:1] == [kind]]
+
+
+def declared(script):
+    """The names of the nodes and links of a script."""
+    return [[words[0] for words in statements(script, kind)] for kind in ("node", "link")]
 
 
 def names_of(lines):
@@ -165,7 +191,7 @@ def ties_of(run):
 class Setting:
     """What stands side by side, and where."""
 
-    def __init__(self, run, plain, window):
+    def __init__(self, run, plain, part):
         self.left = 60 if plain else 364
         self.names = dict(enumerate(run.node_names, 1))
         self.actors = []
@@ -176,16 +202,26 @@ class Setting:
                                 and l.kind == "open"), None)
                 first = opening.effects[0] if opening and opening.effects else None
                 node = int(first.words[1].split(".")[0]) if first and first.kind == "opened" else RIGHTMOST
-                self.actors.append((int(maker[1:]), node, opening.words[1] if opening else ""))
+                self.actors.append((int(maker[1:]), node, maker, opening.words[1] if opening else ""))
         if any(a[1] == RIGHTMOST for a in self.actors):
             self.names[RIGHTMOST] = "?"
         self.links = [(k, name, self.end(run, name, ">", 0), self.end(run, name, "<", RIGHTMOST))
                       for k, name in enumerate(run.link_names, 1)]
-        if window:
+        if run.script is not None:
+            self.declare(run)
+        if part:
             self.leave_out(run, [line for line in run.lines if line.seen])
         count = len(self.actors)
         self.gap = 168 if count <= 6 else 120 if count <= 12 else 84
         self.width = self.left + 10 + 34 * len(self.names) + self.gap * count + 162 * len(self.links)
+
+    def declare(self, run):
+        """Takes all actors and links from the script."""
+        self.names = dict(enumerate(run.node_names, 1))
+        self.actors = [(k, run.node(words[1]), words[0], f"A{k}")
+                       for k, words in enumerate(statements(run.script, "actor"), 1)]
+        self.links = [(k, words[0], run.node(words[1]), run.node(words[2]))
+                      for k, words in enumerate(statements(run.script, "link"), 1)]
 
     def leave_out(self, run, seen):
         """Leaves out the columns without a mark that is seen, and the nodes without columns."""
@@ -272,28 +308,50 @@ def cut(most, words):
 class Drawing:
     """Shapes, as they are written."""
 
-    def __init__(self, run, plain=False, window=None):
-        self.run, self.plain, self.window, self.out = run, plain, window, []
+    def __init__(self, run, plain=False, fold=False, window=None, makers=None):
+        self.run, self.plain, self.makers, self.out = run, plain, makers, []
+        self.part = window is not None or makers is not None
         first, last = window or (0, 2**64)
-        lines = run.lines
-        above = sum(line.step < first for line in lines)
-        self.seen = [line for line in lines if first <= line.step <= last]
-        self.rows = len(self.seen) + (above > 0)
-        for at, line in enumerate(lines):
-            line.seen = first <= line.step <= last
-            line.told = at + 1 < len(lines) and lines[at + 1].place != 0
-            line.row = 0 if line.step < first else self.rows
-        for row, line in enumerate(self.seen, above > 0):
-            line.row = row
-        self.setting = Setting(run, plain, window)
-        self.kept = [line for line in lines if line.seen or self.setting.has(run, line)]
+        self.number_rows(first, last, fold)
+        self.setting = Setting(run, plain, self.part)
+        self.kept = [line for line in run.lines
+                     if not line.folded and (line.seen or self.setting.has(run, line))]
         for at, line in enumerate(self.kept):
             line.at = at
             line.x, line.turned = self.setting.place(line.column)
-        kept = set(map(id, self.kept))
+        self.drawn = drawn = set(map(id, self.kept))
         self.ties = [(kind, start, end) for kind, start, end in ties_of(run)
-                     if start.step <= last and first <= end.step and id(start) in kept and id(end) in kept
-                     and (kind != "carried" or id(end.head) in kept)]
+                     if start.step <= last and first <= end.step
+                     and any(id(line) in drawn and self.is_asked_for(line) for line in (start, end))
+                     and id(start) in drawn and (kind == "carried" or id(end) in drawn)]
+
+    def is_asked_for(self, line):
+        """Whether a line is of a maker that is asked for."""
+        if self.makers is None:
+            return True
+        lives = [life(maker) for maker in self.makers if maker[0] == "A"]
+        return line.maker in self.makers or line.column in lives or line.to in lives
+
+    def number_rows(self, first, last, fold):
+        """Finds the lines that are seen, and the row of each line."""
+        lines = self.run.lines
+        self.rows, self.seen = int(any(line.step < first for line in lines)), []
+        quiet = False
+        for at, line in enumerate(lines):
+            line.seen = first <= line.step <= last and self.is_asked_for(line)
+            line.told = at + 1 < len(lines) and lines[at + 1].place != 0
+            line.row = 0 if line.step < first else self.rows
+            if not line.seen:
+                continue
+            still = line.place == 0 and line.kind in ("wire", "tick") and not line.told
+            line.folded = fold and quiet and still
+            quiet = still
+            if line.folded:
+                line.row = self.rows - 1
+                self.seen[-1].run.append(line)
+            else:
+                self.rows += 1
+                self.seen.append(line)
 
     def box(self, kind, x, y, width, height):
         """A rectangle."""
@@ -339,19 +397,23 @@ class Drawing:
         self.out.append("</g>\n<g class=\"rows\">\n")
         for line in self.seen:
             place = f"s{line.step}" + (f".{line.place}" if line.place else "")
-            self.out.append(f'<g class="row" id="{place}">\n<title>{escaped(f"{line.step} {line.text}")}</title>\n')
+            self.out.append(f'<g class="row" id="{place}">\n<title>{escaped(f"{line.step} {said(line)}")}</title>\n')
             self.box("hit", 0, top(line.row), s.width, 18)
-            self.mark(line)
+            if len(line.run) > 1:
+                self.tallies(line)
+            else:
+                self.mark(line)
             self.out.append("</g>\n")
         self.out.append("</g>\n<g class=\"front\">\n")
         for line in self.seen:
-            self.label(line)
+            if len(line.run) == 1:
+                self.label(line)
         for line in self.seen:
             y = top(line.row) + 13
-            if line.place == 0:
+            if line.place == 0 or self.makers is not None:
                 self.words("line", "end", 48, y, str(line.step))
             if not self.plain:
-                self.words("effect" if line.place else "line", "start", 60, y, cut(42, line.text))
+                self.words("effect" if line.place else "line", "start", 60, y, cut(42, said(line)))
         self.out.append("</g>\n</svg>\n")
         return "".join(self.out)
 
@@ -360,7 +422,7 @@ class Drawing:
         s = self.setting
         foot = top(rows) + 8
         for node, name in s.names.items():
-            if self.window and not any(actor[1] == node for actor in s.actors):
+            if self.part and not any(actor[1] == node for actor in s.actors):
                 continue
             left, width = s.box_left(node), s.box_width(node)
             self.box("node", left, 66, width, 18 * rows + 28)
@@ -378,8 +440,8 @@ class Drawing:
                 self.box("stripe", 0, top(line.row), s.width, 18)
         for actor in s.actors:
             x = s.life_left(actor) + 32
-            self.words("strong", "middle", x, 44, f"A{actor[0]}")
-            self.words("faint", "middle", x, 58, cut(s.gap // 7, actor[2]))
+            self.words("strong", "middle", x, 44, cut(s.gap // 7, actor[2]))
+            self.words("faint", "middle", x, 58, cut(s.gap // 7, actor[3]))
             mine = [line for line in self.kept if line.column == ("life", actor[0])]
             if mine:
                 last = next((l for l in mine if l.place == 0 and l.kind == "ended"), None)
@@ -464,6 +526,12 @@ class Drawing:
         for kind, start, to in self.ties:
             if kind == "signal":
                 self.arrow_from("signal", start, to)
+            elif kind == "carried" and id(to) not in self.drawn:
+                if start.seen:
+                    self.path("signal", *self.cell(start, (32, 9), (48, 9)))
+                    self.head("signal-head", start, 56, 48)
+            elif kind == "carried" and id(to.head) not in self.drawn:
+                self.arrow_from("signal", start, to)
             elif kind == "carried" and to.head.kind == "wire":
                 packet = to.head
                 self.path("signal", *self.cell(start, (32, 9)), ("L", self.along(packet, 24), top(start.row) + 9),
@@ -474,7 +542,7 @@ class Drawing:
         for line in self.seen:
             name = {"arrived": "signal", "found": "found", "notified": "notice"}.get(line.kind) if line.place else None
             head = line.head
-            if name is None or head.kind == "send":
+            if name is None or head.kind == "send" or id(head) not in self.drawn:
                 continue
             if head.kind in ("wire", "tick"):
                 self.arrow(name, self.along(head, 132 if head.kind == "wire" else 24), top(head.row) + 9, line)
@@ -484,6 +552,20 @@ class Drawing:
     def cross(self, line, left):
         """A cross."""
         self.path("wrong", *self.cell(line, (left, 5), (left + 8, 13)), *self.cell(line, (left + 8, 5), (left, 13)))
+
+    def tallies(self, line):
+        """What is in each lane of a row of several steps."""
+        for link in self.setting.links:
+            mine = [l for l in line.run if l.column[1] == link[0]]
+            if not mine:
+                continue
+            packets, lost, ticks = tally(mine)
+            mixed = lost or (packets and ticks)
+            units = ("p", "p"), (" lost", " lost"), ("t", "t")
+            x, y = self.setting.lane_left(link), top(line.row)
+            self.box("fold", x + 30, y + 3, 96, 12)
+            self.words("wrong-label" if lost else "faint", "middle", x + 78, y + 13,
+                       counted((packets, lost, ticks), units if mixed else UNITS))
 
     def mark(self, line):
         """The mark of a line."""
@@ -589,6 +671,27 @@ class Drawing:
             self.words(name, "start", line.x + 62, y, said)
 
 
+UNITS = (" packet", " packets"), (" lost", " lost"), (" tick", " ticks")
+
+
+def tally(lines):
+    """How many packets, losses and ticks lines are."""
+    ticks = sum(line.kind == "tick" for line in lines)
+    return len(lines) - ticks, sum(line.words[-1] == "lose" for line in lines), ticks
+
+
+def counted(numbers, units):
+    """Numbers with their units, but for those that are 0."""
+    return " ".join(f"{n}{unit[n != 1]}" for n, unit in zip(numbers, units) if n)
+
+
+def said(line):
+    """The words of the row that begins with a line."""
+    if len(line.run) == 1:
+        return line.text
+    return f"to {line.run[-1].step}: {counted(tally(line.run), UNITS)}"
+
+
 def brief(word):
     """A word; of a digest how many bytes it stands for."""
     before, colon, behind = word.partition(":")
@@ -606,12 +709,22 @@ def style():
     return literal(parts["light_ground"]) + rules("light") + literal(parts["dark_ground"]) + rules("dark") + "}\n"
 
 
+def drawing(text, words):
+    """The drawing of a text that the words ask for."""
+    asked = {"plain": False, "fold": False}
+    rest = list(words)
+    while rest[:1] and rest[0] in asked:
+        asked[rest.pop(0)] = True
+    if rest[:1] == ["steps"]:
+        asked["window"], rest = tuple(map(int, rest[1:3])), rest[3:]
+    if rest[:1] == ["of"]:
+        asked["makers"] = rest[1].split(",")
+    return Drawing(Run(text), **asked)
+
+
 def main(words):
     """Draws what the words ask for."""
-    plain = words[:1] == ["plain"]
-    rest = words[plain:]
-    window = tuple(map(int, rest[1:3])) if rest[:1] == ["steps"] else None
-    sys.stdout.write(Drawing(Run(sys.stdin.read()), plain, window).whole())
+    sys.stdout.write(drawing(sys.stdin.read(), words).whole())
 
 
 if __name__ == "__main__":

@@ -4,19 +4,20 @@
 The texts are those of examples/ and its races in the fixed order, and of the random scripts of the
 seeds 1 to COUNT, each in the order of its seed. Both must draw the same, byte for byte: of each text
 the whole chart, that without lines, a window of its steps, with lines and without, and one behind
-its last step; a chart of more than 6,000 rows must be refused. The pictures of docs/use/pictures must be those that the program
-draws. It says how many charts were the same, and the first that wasn't.
+its last step; the chart folded, what is of one maker, of two of them folded, and all of that at once;
+a chart of more than 6,000 rows must be refused. The pictures of docs/use/pictures must be those that
+the program draws. It says how many charts were the same, and the first that wasn't.
 
     bench/try drawn [COUNT [PROGRAM]]           COUNT is 100 if unsaid
 """
 import pathlib
 import random
-import subprocess
 import sys
 
 sys.dont_write_bytecode = True
 
 import arguments
+import charts
 import judge
 from seeds import scripts
 
@@ -39,17 +40,20 @@ def views(name, text):
     dice = random.Random(name)
     first = dice.randint(1, max(steps, 1))
     window = ["steps", str(first), str(dice.randint(first, max(steps, 1)))]
-    return [[], ["plain"], window, ["plain", *window], ["steps", str(steps + 1), str(steps + 9)]]
+    makers = sorted({line.split(b" ")[1].decode() for line in journal_of(text) if not line.startswith(b"+")})
+    one = ["of", dice.choice(makers or ["A1"])]
+    some = ["of", ",".join(dice.sample(makers, min(2, len(makers))) or ["P1"])]
+    return [[], ["plain"], window, ["plain", *window], ["steps", str(steps + 1), str(steps + 9)], ["fold"], one,
+            ["fold", *some], ["plain", "fold", *window, *some]]
 
 
 def wrong(program, text, view):
     """What is wrong with a chart of a text, or None."""
     ended = judge.ended([program, "chart", *view], text, SECONDS)
-    if "steps" not in view and len(journal_of(text)) > ROWS_MOST:
+    drawing = charts.drawing(text.decode(), view)
+    if len(drawing.seen) > ROWS_MOST:
         return judge.difference(ended, (8, TOO_LARGE, b""))
-    drawn = subprocess.run([sys.executable, str(BENCH / "charts.py"), *view], input=text,
-                           capture_output=True, check=True).stdout
-    return judge.difference(ended, (0, b"", drawn))
+    return judge.difference(ended, (0, b"", drawing.whole().encode()))
 
 
 def texts(program, count):

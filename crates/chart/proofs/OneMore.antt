@@ -24,18 +24,18 @@ use Rattle.chart.specs.Marks.{head_mark, effect_mark, effect_marks, step_marks}
 use Rattle.chart.specs.Ties.{effect_tie, effect_ties}
 
 -- the marks of effects and one more
-pub one_mark_more : (S : List Step) (position place : ℕ) (es : List Effect) (e : Effect)
-    → effect_marks S position place (es ++ e ∷ [])
-    ≡ effect_marks S position place es
-    ++ effect_mark S position (place + length es) e ∷ []
-one_mark_more S position place [] e =
+pub one_mark_more : (S : List Step) (by : By) (position place : ℕ) (es : List Effect) (e : Effect)
+    → effect_marks S by position place (es ++ e ∷ [])
+    ≡ effect_marks S by position place es
+    ++ effect_mark S by position (place + length es) e ∷ []
+one_mark_more S by position place [] e =
     let same : place ≡ place + 0 = omega arith in
-    ap (λ (n : ℕ). effect_mark S position n e ∷ []) same
-one_mark_more S position place (x ∷ es) e =
+    ap (λ (n : ℕ). effect_mark S by position n e ∷ []) same
+one_mark_more S by position place (x ∷ es) e =
     let same : place + 1 + length es ≡ place + suc (length es) = omega arith in
-    ap (λ (l : List Mark). effect_mark S position place x ∷ l)
-    (one_mark_more S position (place + 1) es e
-    ∙ ap (λ (n : ℕ). effect_marks S position (place + 1) es ++ effect_mark S position n e ∷ [])
+    ap (λ (l : List Mark). effect_mark S by position place x ∷ l)
+    (one_mark_more S by position (place + 1) es e
+    ∙ ap (λ (n : ℕ). effect_marks S by position (place + 1) es ++ effect_mark S by position n e ∷ [])
     same)
 
 -- the ties of effects and one more
@@ -56,18 +56,18 @@ one_tie_more position place head (x ∷ es) e =
     (effect_ties position (place + 1) head es) (effect_tie position (place + suc (length es)) head e))
 
 -- the marks of the effects so far, and of the next one
-pub marks_grown : (S : List Step) (position index : ℕ) (more so_far : List Effect) (e : Effect)
+pub marks_grown : (S : List Step) (by : By) (position index : ℕ) (more so_far : List Effect) (e : Effect)
     (m : Mark) (old before after : List Mark) → after ≡ before ++ m ∷ []
-    → m ≡ effect_mark S position (index + 1) e
-    → before ≡ old ++ effect_marks S position 1 so_far → more ≡ so_far ++ e ∷ []
-    → 1 + length so_far ≡ index + 1 → after ≡ old ++ effect_marks S position 1 more
-marks_grown S position index more so_far e m old before after now mark kept grown count =
-    let marks : List Mark = effect_marks S position 1 so_far in
+    → m ≡ effect_mark S by position (index + 1) e
+    → before ≡ old ++ effect_marks S by position 1 so_far → more ≡ so_far ++ e ∷ []
+    → 1 + length so_far ≡ index + 1 → after ≡ old ++ effect_marks S by position 1 more
+marks_grown S by position index more so_far e m old before after now mark kept grown count =
+    let marks : List Mark = effect_marks S by position 1 so_far in
     now ∙ ap (λ (l : List Mark). l ++ m ∷ []) kept ∙ append_assoc old marks (m ∷ [])
     ∙ ap (λ (n : Mark). old ++ (marks ++ n ∷ [])) mark
-    ∙ ap (λ (k : ℕ). old ++ (marks ++ effect_mark S position k e ∷ [])) (sym count)
-    ∙ ap (λ (l : List Mark). old ++ l) (sym (one_mark_more S position 1 so_far e))
-    ∙ ap (λ (es : List Effect). old ++ effect_marks S position 1 es) (sym grown)
+    ∙ ap (λ (k : ℕ). old ++ (marks ++ effect_mark S by position k e ∷ [])) (sym count)
+    ∙ ap (λ (l : List Mark). old ++ l) (sym (one_mark_more S by position 1 so_far e))
+    ∙ ap (λ (es : List Effect). old ++ effect_marks S by position 1 es) (sym grown)
 
 -- the ties of the effects so far, and of the next one
 pub ties_grown : (position index : ℕ) (head : Head) (more so_far : List Effect) (e : Effect)
@@ -85,16 +85,16 @@ ties_grown position index head more so_far e old before after now kept grown cou
 -- the mark of a step's head, and those of its effects
 pub marks_put : (s : Step) (P : List Step) (position : ℕ) (m : Mark) (es : List Effect)
     (old before after : List Mark) → position ≡ length P + 1 → before ≡ old ++ m ∷ []
-    → m ≡ head_mark position s.by s.head → es ≡ s.effects
-    → after ≡ before ++ effect_marks (s ∷ P) position 1 es → after ≡ old ++ step_marks s P
+    → m ≡ head_mark (s ∷ P) position s.by s.head → es ≡ s.effects
+    → after ≡ before ++ effect_marks (s ∷ P) s.by position 1 es → after ≡ old ++ step_marks s P
 marks_put s P position m es old before after at put mark effects now =
     let same : position ≡ suc (length P) = omega arith in
-    now ∙ ap (λ (l : List Mark). l ++ effect_marks (s ∷ P) position 1 es) put
-    ∙ append_assoc old (m ∷ []) (effect_marks (s ∷ P) position 1 es)
-    ∙ ap (λ (n : Mark). old ++ n ∷ effect_marks (s ∷ P) position 1 es) mark
-    ∙ ap (λ (l : List Effect). old ++ head_mark position s.by s.head
-    ∷ effect_marks (s ∷ P) position 1 l) effects
-    ∙ ap (λ (k : ℕ). old ++ head_mark k s.by s.head ∷ effect_marks (s ∷ P) k 1 s.effects) same
+    now ∙ ap (λ (l : List Mark). l ++ effect_marks (s ∷ P) s.by position 1 es) put
+    ∙ append_assoc old (m ∷ []) (effect_marks (s ∷ P) s.by position 1 es)
+    ∙ ap (λ (n : Mark). old ++ n ∷ effect_marks (s ∷ P) s.by position 1 es) mark
+    ∙ ap (λ (l : List Effect). old ++ head_mark (s ∷ P) position s.by s.head
+    ∷ effect_marks (s ∷ P) s.by position 1 l) effects
+    ∙ ap (λ (k : ℕ). old ++ head_mark (s ∷ P) k s.by s.head ∷ effect_marks (s ∷ P) s.by k 1 s.effects) same
 
 -- a choice by the later of two tests, and then by the earlier one
 pub later_or_earlier : {X : Type 0} (a b : Bool) (x y : X)

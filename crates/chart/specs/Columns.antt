@@ -8,7 +8,7 @@ use Rattle.linx_base.specs.declared.identity.Peer.TheVariants.{Here, There}
 use Rattle.journal.specs.declared.by.By.{By}
 use Rattle.journal.specs.declared.by.By.TheVariants.{Actor, Pump}
 use Rattle.journal.specs.declared.head.Head.{Head}
-use Rattle.journal.specs.declared.head.Head.TheVariants.{Wire, Tick}
+use Rattle.journal.specs.declared.head.Head.TheVariants.{Wire, Tick, Send}
 use Rattle.journal.specs.declared.effect.Effect.{Effect}
 use Rattle.journal.specs.declared.effect.Effect.TheVariants.{Opened, Closed, Arrived, Found}
 use Rattle.journal.specs.declared.effect.Effect.TheVariants.{Notified, Met, Gone, Up, Down}
@@ -43,6 +43,16 @@ abbrev pub head_column : By → Head → Column
 head_column by (Wire link side verdict) = Lane link side
 head_column by (Tick link side) = Lane link side
 head_column by _ = column_by by
+
+-- the endpoint that a peer is
+abbrev pub inc_in : Peer → Inc
+inc_in (Here i) = i
+inc_in (There link session i) = i
+
+-- the column of the endpoint that a send is to, after these steps; no other step is to one
+abbrev pub receiver : List Step → Head → Column
+receiver P (Send peer note answer) = column_if (opener P (inc_in peer))
+receiver P _ = Nowhere
 
 -- THE COLUMN OF AN EFFECT, after these steps: that of the actor who opened the endpoint that it
 -- concerns, or the rail of the link at the node that it concerns

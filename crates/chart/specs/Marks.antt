@@ -10,7 +10,8 @@ use Rattle.journal.specs.declared.effect.Step.{Step}
 use Rattle.chart.specs.declared.mark.Mark.{Mark}
 use Rattle.chart.specs.declared.mark.MarkKind.{MarkKind}
 use Rattle.chart.specs.declared.mark.MarkKind.TheVariants as kinds
-use Rattle.chart.specs.Columns.{head_column, effect_column}
+use Rattle.chart.specs.declared.column.Column.TheVariants.{Nowhere}
+use Rattle.chart.specs.Columns.{head_column, effect_column, receiver}
 
 -- the line of a place of a step: its own at 0, from 1 on those of its effects
 abbrev pub line_at : ℕ → ℕ → ItemAt
@@ -60,33 +61,37 @@ effect_kind (effects.Gone node peer) = kinds.Gone
 effect_kind (effects.Up node link session other) = kinds.Up
 effect_kind (effects.Down node link session) = kinds.Down
 
--- the mark of a step's own line
-abbrev pub head_mark : ℕ → By → Head → Mark
-head_mark position by head = record {
+-- the mark of a step's own line, after these steps
+abbrev pub head_mark : List Step → ℕ → By → Head → Mark
+head_mark S position by head = record {
   line = line_at position 0;
   column = head_column by head;
   kind = head_kind head;
+  by = by;
+  to = receiver S head;
 }
 
--- the mark of an effect at a place of a step, after these steps
-abbrev pub effect_mark : List Step → ℕ → ℕ → Effect → Mark
-effect_mark S position place e = record {
+-- the mark of an effect at a place of a step of this maker, after these steps
+abbrev pub effect_mark : List Step → By → ℕ → ℕ → Effect → Mark
+effect_mark S by position place e = record {
   line = line_at position place;
   column = effect_column S e;
   kind = effect_kind e;
+  by = by;
+  to = Nowhere;
 }
 
 -- the marks of a step's effects, from this place on
-abbrev pub effect_marks : List Step → ℕ → ℕ → List Effect → List Mark
-effect_marks S position place [] = []
-effect_marks S position place (e ∷ es) =
-    effect_mark S position place e ∷ effect_marks S position (place + 1) es
+abbrev pub effect_marks : List Step → By → ℕ → ℕ → List Effect → List Mark
+effect_marks S by position place [] = []
+effect_marks S by position place (e ∷ es) =
+    effect_mark S by position place e ∷ effect_marks S by position (place + 1) es
 
 -- the marks of the last of these steps
 abbrev pub step_marks : Step → List Step → List Mark
 step_marks s P =
-    head_mark (suc (length P)) s.by s.head
-    ∷ effect_marks (s ∷ P) (suc (length P)) 1 s.effects
+    head_mark (s ∷ P) (suc (length P)) s.by s.head
+    ∷ effect_marks (s ∷ P) s.by (suc (length P)) 1 s.effects
 
 -- THE MARKS OF A JOURNAL, in the order of the lines: the k-th stands in the k-th row
 abbrev pub marks_of : List Step → List Mark

@@ -5,6 +5,7 @@ ghost use Rattle.chart.specs.Marks.{head_kind, effect_kind, head_mark, effect_ma
 ghost use Rattle.chart.specs.Marks.{step_marks, marks_of, MarkEachLine};
 ghost use Rattle.chart.specs.Opened.{Opens};
 
+use crate::column::Column;
 use crate::mark::{Mark, MarkKind};
 use crate::openers::{Openers, head_column};
 use journal::{By, Effect, Head, Journal, Step};
@@ -53,8 +54,9 @@ fn effect_kind(effect: &Effect) -> MarkKind
     }
 }
 
-fn head_mark(position: u64, by: By, head: &Head) -> Mark
-    ensures { result ≡ head_mark position by head.now }
+fn head_mark(openers: &Openers, position: u64, by: By, head: &Head) -> Mark
+    ensures { (S : List StepOf) → Opens S openers.now
+        → result ≡ head_mark S position by head.now }
 {
     Mark {
         line: ItemAt {
@@ -63,12 +65,14 @@ fn head_mark(position: u64, by: By, head: &Head) -> Mark
         },
         column: head_column(by, head),
         kind: head_kind(head),
+        by,
+        to: openers.receiver(head),
     }
 }
 
-fn effect_mark(openers: &Openers, position: u64, place: u64, effect: &Effect) -> Mark
+fn effect_mark(openers: &Openers, by: By, position: u64, place: u64, effect: &Effect) -> Mark
     ensures { (S : List StepOf) → Opens S openers.now
-        → result ≡ effect_mark S position place effect.now }
+        → result ≡ effect_mark S by position place effect.now }
 {
     Mark {
         line: ItemAt {
@@ -77,20 +81,23 @@ fn effect_mark(openers: &Openers, position: u64, place: u64, effect: &Effect) ->
         },
         column: openers.effect_column(effect),
         kind: effect_kind(effect),
+        by,
+        to: Column::Nowhere,
     }
 }
 
 fn put_effects(
     marks: &mut Vec<Mark>,
     openers: &Openers,
+    by: By,
     position: u64,
     effects: &[Effect],
 ) -> Result<(), NoMemory>
     ensures { (S : List StepOf) → Opens S openers.now → OnOk result (marks.new.items
-        ≡ marks.old.items ++ effect_marks S position 1 effects.now) }
+        ≡ marks.old.items ++ effect_marks S by position 1 effects.now) }
 {
     for (index, effect) in effects.iter().enumerate() {
-        marks.push(effect_mark(openers, position, index as u64 + 1, effect))?;
+        marks.push(effect_mark(openers, by, position, index as u64 + 1, effect))?;
     }
     Ok(())
 }
@@ -108,8 +115,8 @@ fn put_step(
         → OnOk result (Opens (step.now ∷ P) openers.new) }
 {
     openers.note(step)?;
-    marks.push(head_mark(position, step.by, &step.head))?;
-    put_effects(marks, openers, position, step.effects.as_slice())
+    marks.push(head_mark(openers, position, step.by, &step.head))?;
+    put_effects(marks, openers, step.by, position, step.effects.as_slice())
 }
 
 fn put_steps(alloc: Global, journal: &Journal) -> Result<Vec<Mark>, NoMemory>

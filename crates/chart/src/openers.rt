@@ -5,7 +5,7 @@ ghost use Rattle.std.specs.HashMap.{get};
 ghost use Rattle.journal.specs.declared.effect.Step.{Step as StepOf};
 ghost use Rattle.journal.specs.History.{opens};
 ghost use Rattle.chart.specs.Columns.{opener, column_by, column_if, rail_of, head_column};
-ghost use Rattle.chart.specs.Columns.{effect_column};
+ghost use Rattle.chart.specs.Columns.{effect_column, inc_in, receiver};
 ghost use Rattle.chart.specs.Opened.{Opens};
 
 use crate::column::Column;
@@ -62,6 +62,15 @@ fn rail_of(node: NodeNo, peer: Peer) -> Column
     }
 }
 
+/// The endpoint that a peer is.
+fn inc_in(peer: Peer) -> Inc
+    ensures { result ≡ inc_in peer }
+{
+    match peer {
+        Peer::Here(inc) | Peer::There { inc, .. } => inc,
+    }
+}
+
 /// The column of a step with this maker and this head.
 pub(crate) fn head_column(by: By, head: &Head) -> Column
     ensures { result ≡ head_column by head.now }
@@ -104,6 +113,16 @@ impl Openers {
         match self.by.get(&inc.0) {
             Some(by) => column_by(*by),
             None => Column::Nowhere,
+        }
+    }
+
+    /// The column of the endpoint that a send is to.
+    pub(crate) fn receiver(&self, head: &Head) -> Column
+        ensures { (P : List StepOf) → Opens P self.now → result ≡ receiver P head.now }
+    {
+        match head {
+            Head::Send(peer, ..) => self.column(inc_in(*peer)),
+            _ => Column::Nowhere,
         }
     }
 

@@ -1,5 +1,6 @@
 //! The marks and the ties of small journals. Each line wanted is one of them: of a mark the place of
-//! its line, its column and what it is of; of a tie why, and the two places.
+//! its line, who made the step, its column, what it is of, and the column that it is sent to; of a tie
+//! why, and the two places.
 
 use case_words::{filter_of, inc_of, name_of, path_of, peer_of, session_of};
 use chart::{Mark, Tie, all_marks, all_ties};
@@ -169,8 +170,8 @@ fn one_over_a_link(alloc: Global) -> Result<Journal, Fail> {
 fn mark_text(alloc: Global, mark: &Mark) -> Result<String, Fail> {
     let line = mark.line;
     Ok(format!(in alloc;
-        "{}.{} {:?} {:?}\n",
-        line.step, line.place, mark.column, mark.kind
+        "{}.{} {:?} {:?} {:?} {:?}\n",
+        line.step, line.place, mark.by, mark.column, mark.kind, mark.to
     )?)
 }
 
@@ -198,19 +199,19 @@ fn chart_text(alloc: Global, journal: &Journal) -> Result<String, Fail> {
 #[test]
 fn each_line_has_a_mark_in_its_column(rt: HostRuntime) -> Result<(), Fail> {
     let text = chart_text(rt.alloc(), &two_on_a_node(rt.alloc())?)?;
-    let wanted = "1.0 Life(2) Open
-1.1 Life(2) Opened
-2.0 Life(1) Open
-2.1 Life(1) Opened
-3.0 Life(1) Send(Queued)
-3.1 Life(2) Arrived
-4.0 Life(2) Take
-5.0 Life(1) Attach
-6.0 Life(2) Close
-6.1 Life(2) Closed
-6.2 Life(1) Notified
-7.0 Life(1) Detach(Queued)
-8.0 Life(1) Send(Dead)
+    let wanted = "1.0 Actor(2) Life(2) Open Nowhere
+1.1 Actor(2) Life(2) Opened Nowhere
+2.0 Actor(1) Life(1) Open Nowhere
+2.1 Actor(1) Life(1) Opened Nowhere
+3.0 Actor(1) Life(1) Send(Queued) Life(2)
+3.1 Actor(1) Life(2) Arrived Nowhere
+4.0 Actor(2) Life(2) Take Nowhere
+5.0 Actor(1) Life(1) Attach Nowhere
+6.0 Actor(2) Life(2) Close Nowhere
+6.1 Actor(2) Life(2) Closed Nowhere
+6.2 Actor(2) Life(1) Notified Nowhere
+7.0 Actor(1) Life(1) Detach(Queued) Nowhere
+8.0 Actor(1) Life(1) Send(Dead) Life(2)
 Signal 3.0 3.1
 Taken 3.1 4.0
 Attach 5.0 6.2
@@ -223,16 +224,16 @@ Detach 5.0 7.0
 #[test]
 fn packets_stand_in_lanes_and_what_they_bring_on_rails(rt: HostRuntime) -> Result<(), Fail> {
     let text = chart_text(rt.alloc(), &one_over_a_link(rt.alloc())?)?;
-    let wanted = "1.0 Life(1) Open
-1.1 Life(1) Opened
-2.0 Life(1) Hunt
-3.0 Lane(LinkNo(1), Second) Tick
-4.0 Lane(LinkNo(1), Second) Packet(Swap(1))
-4.1 Rail(LinkNo(1), NodeNo(1)) Up
-4.2 Rail(LinkNo(1), NodeNo(1)) Met
-4.3 Life(1) Found
-5.0 Life(1) Ended
-5.1 Nowhere Closed
+    let wanted = "1.0 Actor(1) Life(1) Open Nowhere
+1.1 Actor(1) Life(1) Opened Nowhere
+2.0 Actor(1) Life(1) Hunt Nowhere
+3.0 Pump(LinkNo(1)) Lane(LinkNo(1), Second) Tick Nowhere
+4.0 Pump(LinkNo(1)) Lane(LinkNo(1), Second) Packet(Swap(1)) Nowhere
+4.1 Pump(LinkNo(1)) Rail(LinkNo(1), NodeNo(1)) Up Nowhere
+4.2 Pump(LinkNo(1)) Rail(LinkNo(1), NodeNo(1)) Met Nowhere
+4.3 Pump(LinkNo(1)) Life(1) Found Nowhere
+5.0 Actor(1) Life(1) Ended Nowhere
+5.1 Actor(1) Nowhere Closed Nowhere
 Hunt 2.0 4.3
 ";
     assert_eq!(rt; text.as_str(), wanted);

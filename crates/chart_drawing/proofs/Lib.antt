@@ -1,3 +1,4 @@
 pub mod EachRow
 pub mod Counts
 pub mod Behind
+pub mod Few

@@ -65,11 +65,17 @@ carried from packet =
     ∷ strokes.Line (point (in_lane packet 24 9).x (in_cell from 32 9).y)
     ∷ lane_line packet 132 9 ∷ [])
 
--- a signal from its send, carried by the packet whose step its arrival is in, where it is one
-abbrev pub carried_by : Spot → Option Spot → List Shape
-carried_by from None = []
-carried_by from (Some step) =
+-- a signal from its send, carried by the packet whose step its arrival is in, where it is one; where
+-- its lane isn't drawn, straight to its arrival
+abbrev pub carried_by : Spot → Spot → Option Spot → List Shape
+carried_by from to None = arrow_from Signal SignalHead from to
+carried_by from to (Some step) =
     if is_packet step.mark.kind then carried from step ∷ [] else []
+
+-- a signal that goes where nothing is drawn: a short arrow from its send, where that is seen
+abbrev pub sent_off : Spot → List Shape
+sent_off from =
+    if from.seen then leaving from ∷ head_at SignalHead from 56 48 ∷ [] else []
 
 -- a signal that never arrived: a line with a cross
 abbrev pub lost : Spot → List Shape
@@ -78,7 +84,8 @@ lost from = leaving from ∷ cross from 48 ∷ []
 -- a signal from its send to its arrival, on a node or over a link, or only from its send
 abbrev pub signal_if : List Spot → TieKind → Option Spot → Option Spot → List Shape
 signal_if spots ties.Signal (Some from) (Some to) = arrow_from Signal SignalHead from to
-signal_if spots ties.Carried (Some from) (Some to) = carried_by from (step_spot spots to)
+signal_if spots ties.Carried (Some from) (Some to) = carried_by from to (step_spot spots to)
+signal_if spots ties.Carried (Some from) None = sent_off from
 signal_if spots ties.Lost (Some from) (Some to) = lost from
 signal_if spots kind from to = []
 

@@ -1,7 +1,7 @@
 -- What a drawing stands on: the boxes of nodes, the lanes of links, the lines of actors, and the
 -- words over them.
 use Rattle.std.specs.Prelude.{ℕ, ◌+◌, ◌*◌, ◌/◌, ◌%◌, ◌==◌, Bool, true, false, ◌&&◌, if◌then◌else◌}
-use Rattle.std.specs.Prelude.{List, [], ◌∷◌, ◌++◌, Option, Some, None, is_some, find, codes, decimal}
+use Rattle.std.specs.Prelude.{List, [], ◌∷◌, ◌++◌, Option, Some, None, find, codes}
 use Rattle.svg_text.specs.declared.class.Class.{Class}
 use Rattle.svg_text.specs.declared.class.Class.TheVariants.{Node, NodeCaption, Lane, Stripe, Life}
 use Rattle.svg_text.specs.declared.class.Class.TheVariants.{Rail, Strong, Faint}
@@ -22,6 +22,7 @@ use Rattle.chart_drawing.specs.Layout.{gap, box_left, box_width, lane_left, life
 use Rattle.chart_drawing.specs.Layout.{actors_on, earlier_end, later_end, node_of}
 use Rattle.chart_drawing.specs.Rows.{cut}
 use Rattle.chart_drawing.specs.Spots.{point, row_top, same_column}
+use Rattle.chart_drawing.specs.Views.{is_part}
 
 -- the foot of lines that nothing ends, 8 below so many rows
 abbrev pub foot : ℕ → ℕ
@@ -36,9 +37,9 @@ abbrev pub ground : Class → ℕ → ℕ → ℕ → Shape
 ground class left width rows =
     Box class (record { corner = point left 66; width = width; height = 18 * rows + 28 })
 
--- a node has no box: in a window, where none of its actors is seen, and its rails alone have its name
+-- a node has no box: in a part of a chart, where none of its actors is seen, and its rails alone have its name
 abbrev pub is_bare : Setting → ℕ → Bool
-is_bare setting node = is_some setting.view.steps && actors_on setting node == 0
+is_bare setting node = is_part setting.view && actors_on setting node == 0
 
 -- THE BOX OF A NODE, and its name over it
 abbrev pub node_shapes : Setting → ℕ → DrawnNode → List Shape
@@ -116,13 +117,13 @@ life_shapes rows x None last = []
 life_shapes rows x (Some first) last =
     straight Life x (row_top first.row + 9) (end_of rows last) ∷ []
 
--- how many characters of an actor's name there is room for
+-- how many characters of an actor's captions there is room for
 abbrev pub name_room : Setting → ℕ
 name_room setting = gap setting / 7
 
--- THE LINE OF AN ACTOR, and its number and name over it
+-- THE LINE OF AN ACTOR, and its captions over it
 abbrev pub actor_shapes : Setting → ℕ → List Spot → DrawnActor → List Shape
 actor_shapes setting rows spots a =
-    title_at Strong (life_left setting a + 32) 44 (codes "A" ++ decimal a.actor)
-    ∷ title_at Faint (life_left setting a + 32) 58 (cut (name_room setting) a.name)
+    title_at Strong (life_left setting a + 32) 44 (cut (name_room setting) a.caption)
+    ∷ title_at Faint (life_left setting a + 32) 58 (cut (name_room setting) a.subcaption)
     ∷ life_shapes rows (life_left setting a + 32) (first_of spots a) (last_of spots a)

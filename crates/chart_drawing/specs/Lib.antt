@@ -4,6 +4,7 @@ pub mod LifeMarks
 pub mod LaneMarks
 pub mod Labels
 pub mod Rows
+pub mod Folds
 pub mod Bands
 pub mod Bars
 pub mod Beside

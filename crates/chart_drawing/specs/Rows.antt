@@ -1,7 +1,7 @@
--- The rows of a drawing, one for each mark, and the words before and beside them.
+-- The rows of a drawing, and the words before and beside them.
 use Rattle.std.specs.Prelude.{ℕ, ◌+◌, ◌-◌, ◌/◌, ◌==◌, nat_le, Bool, if◌then◌else◌}
 use Rattle.std.specs.Prelude.{List, [], ◌∷◌, ◌++◌, length, take, Option, Some, None}
-use Rattle.std.specs.Prelude.{slice_get, codes, decimal, map}
+use Rattle.std.specs.Prelude.{slice_get, codes, decimal, is_some, ◌||◌}
 use Rattle.journal.specs.declared.head.SentTo.{SentTo}
 use Rattle.journal.specs.declared.head.SentTo.TheVariants.{Dead}
 use Rattle.linx_base.specs.declared.frame.Verdict.{Verdict}
@@ -19,8 +19,10 @@ use Rattle.chart.specs.declared.mark.MarkKind.{MarkKind}
 use Rattle.chart.specs.declared.mark.MarkKind.TheVariants as kinds
 use Rattle.chart_drawing.specs.declared.setting.Setting.{Setting}
 use Rattle.chart_drawing.specs.declared.spot.Spot.{Spot}
+use Rattle.chart_drawing.specs.declared.view.View.{View}
 use Rattle.chart.specs.declared.column.Column.{Column}
 use Rattle.chart.specs.declared.column.Column.TheVariants.{Life}
+use Rattle.chart_drawing.specs.Folds.{run_of, is_run, fold_shapes, fold_words}
 use Rattle.chart_drawing.specs.Labels.{label_of}
 use Rattle.chart_drawing.specs.Layout.{gap, width_of}
 use Rattle.chart_drawing.specs.LifeMarks.{ring, level, upright, send_shapes, take_shape}
@@ -58,22 +60,28 @@ mark_shapes spot kinds.Gone = gone_shapes spot
 mark_shapes spot kinds.Up = level spot 10 22 ∷ []
 mark_shapes spot kinds.Down = down_shape spot ∷ []
 
--- the words of a row, no words where there are none
+-- the words of a line, no words where there are none
 abbrev pub words_if : Option (List ℕ) → List ℕ
 words_if None = []
 words_if (Some words) = words
 
--- the words of the line of a row, by the row's number
+-- the words of a mark's line, by the mark's place
 abbrev pub words_at : List (List ℕ) → ℕ → List ℕ
-words_at all row = words_if (slice_get all row)
+words_at all place = words_if (slice_get all place)
 
 -- words cut to a length, with two dots where some are left out
 abbrev pub cut : ℕ → List ℕ → List ℕ
 cut most words = if nat_le (length words) most then words else take (most - 2) words ++ codes ".."
 
--- the title of a row: the position of its step, and its line
-abbrev pub row_title : List (List ℕ) → Spot → List ℕ
-row_title lines spot = decimal spot.mark.line.step ++ codes " " ++ words_at lines spot.row
+-- THE WORDS OF A ROW of these marks, of which this is the first: those of its line, or of a row of
+-- several marks what they are
+abbrev pub row_words : List (List ℕ) → Spot → List Spot → List ℕ
+row_words lines spot run = if is_run run then fold_words run else words_at lines spot.place
+
+-- the title of a row: the position of its step, and its words
+abbrev pub row_title : List (List ℕ) → Spot → List Spot → List ℕ
+row_title lines spot run =
+    decimal spot.mark.line.step ++ codes " " ++ row_words lines spot run
 
 -- what lights under the pointer: the whole row
 abbrev pub hit_shape : Setting → Spot → Shape
@@ -84,18 +92,26 @@ hit_shape setting spot =
       height = 18;
     })
 
--- THE ROW OF A MARK: its line's place and title, and its shapes
-abbrev pub row_of : Setting → List (List ℕ) → Spot → Row
-row_of setting lines spot = record {
+-- what a row of these marks shows
+abbrev pub run_shapes : Setting → Spot → List Spot → List Shape
+run_shapes setting spot run =
+    if is_run run then fold_shapes setting spot.row run else mark_shapes spot spot.mark.kind
+
+-- THE ROW OF THESE MARKS: the place of its first line, its title, and its shapes
+abbrev pub row_of : Setting → List (List ℕ) → Spot → List Spot → Row
+row_of setting lines spot run = record {
   step = spot.mark.line.step;
   effect = spot.mark.line.place;
-  title = row_title lines spot;
-  shapes = hit_shape setting spot ∷ mark_shapes spot spot.mark.kind;
+  title = row_title lines spot run;
+  shapes = hit_shape setting spot ∷ run_shapes setting spot run;
 }
 
--- THE ROWS OF A DRAWING, one for each mark, in the order of their spots
+-- THE ROWS OF A DRAWING: each begins at the spot of a mark that shares no row of one before
 abbrev pub rows_of : Setting → List (List ℕ) → List Spot → List Row
-rows_of setting lines spots = map (row_of setting lines) spots
+rows_of setting lines [] = []
+rows_of setting lines (s ∷ more) =
+    (if s.folded then [] else row_of setting lines s (run_of s.row (s ∷ more)) ∷ [])
+    ++ rows_of setting lines more
 
 -- where the label of a mark on a line or a rail stands: to the right, but of a right rail to the left
 abbrev pub side_point : Spot → ℕ → Point
@@ -163,19 +179,34 @@ label_if setting spot words =
     if length words == 0 then []
     else label_shape spot spot.mark.kind (cut (label_room setting spot.mark.column) words) ∷ []
 
--- the label of a row: words of its line
+-- the label of a mark: words of its line
 abbrev pub label_shapes : Setting → List (List ℕ) → Spot → List Shape
 label_shapes setting lines spot =
-    label_if setting spot (label_of spot.mark.kind (words_at lines spot.row))
+    label_if setting spot (label_of spot.mark.kind (words_at lines spot.place))
 
--- the words of a line, cut to 42 characters
-abbrev pub line_words : List (List ℕ) → Spot → List ℕ
-line_words lines spot = cut 42 (words_at lines spot.row)
+-- the label of a row of these marks: that of its mark, where it has one alone
+abbrev pub run_label : Setting → List (List ℕ) → Spot → List Spot → List Shape
+run_label setting lines spot run = if is_run run then [] else label_shapes setting lines spot
 
--- before the line of a step its position
-abbrev pub position_shapes : Spot → List Shape
-position_shapes spot =
-    if spot.mark.line.place == 0
+-- THE LABELS OF ROWS
+abbrev pub labels_of : Setting → List (List ℕ) → List Spot → List Shape
+labels_of setting lines [] = []
+labels_of setting lines (s ∷ more) =
+    (if s.folded then [] else run_label setting lines s (run_of s.row (s ∷ more)))
+    ++ labels_of setting lines more
+
+-- the words of a row, cut to 42 characters
+abbrev pub line_words : List (List ℕ) → Spot → List Spot → List ℕ
+line_words lines spot run = cut 42 (row_words lines spot run)
+
+-- the position of a step stands before its line, and of some makers' rows before each
+abbrev pub is_numbered : View → Spot → Bool
+is_numbered view spot = spot.mark.line.place == 0 || is_some view.of
+
+-- the position of a step, before a row
+abbrev pub position_shapes : View → Spot → List Shape
+position_shapes view spot =
+    if is_numbered view spot
     then Words Line End (point 48 (row_top spot.row + 13)) (decimal spot.mark.line.step) ∷ []
     else []
 
@@ -183,10 +214,17 @@ position_shapes spot =
 abbrev pub line_class : ℕ → Class
 line_class place = if place == 0 then Line else Effect
 
--- the words of a line at the left, unless lines are left out, and before those of a step its position
-abbrev pub line_shapes : Bool → List (List ℕ) → Spot → List Shape
-line_shapes plain lines spot =
-    position_shapes spot
-    ++ (if plain then []
+-- the words of a row at the left, unless lines are left out, and before them a position
+abbrev pub line_shapes : View → List (List ℕ) → Spot → List Spot → List Shape
+line_shapes view lines spot run =
+    position_shapes view spot
+    ++ (if view.plain then []
     else Words (line_class spot.mark.line.place) Start (point 60 (row_top spot.row + 13))
-    (line_words lines spot) ∷ [])
+    (line_words lines spot run) ∷ [])
+
+-- THE LINES OF ROWS
+abbrev pub lines_of : View → List (List ℕ) → List Spot → List Shape
+lines_of view lines [] = []
+lines_of view lines (s ∷ more) =
+    (if s.folded then [] else line_shapes view lines s (run_of s.row (s ∷ more)))
+    ++ lines_of view lines more

@@ -1,8 +1,8 @@
--- Which columns a window has: those in which one of its marks stands.
-use Rattle.std.specs.Prelude.{ℕ, ◌==◌, Bool, false, ◌&&◌, ◌||◌, List, filter, Option, Some, None}
+-- Which columns a part of a chart has: those in which one of the marks stands that are seen.
+use Rattle.std.specs.Prelude.{ℕ, ◌==◌, Bool, false, ◌&&◌, ◌||◌, List, filter, if◌then◌else◌}
 use Rattle.std.specs.List.{list_any}
 use Rattle.chart.specs.declared.column.Column.{Column}
-use Rattle.chart.specs.declared.column.Column.TheVariants.{Life, Lane, Rail}
+use Rattle.chart.specs.declared.column.Column.TheVariants.{Lane, Rail}
 use Rattle.chart.specs.declared.mark.Mark.{Mark}
 use Rattle.chart.specs.declared.mark.MarkKind.{MarkKind}
 use Rattle.chart.specs.declared.mark.MarkKind.TheVariants.{Cut, Mend}
@@ -10,13 +10,8 @@ use Rattle.chart_drawing.specs.declared.setting.DrawnNode.{DrawnNode}
 use Rattle.chart_drawing.specs.declared.setting.DrawnLink.{DrawnLink}
 use Rattle.chart_drawing.specs.declared.setting.DrawnActor.{DrawnActor}
 use Rattle.chart_drawing.specs.declared.setting.Setting.{Setting}
-use Rattle.chart_drawing.specs.declared.view.Steps.{Steps}
-use Rattle.chart_drawing.specs.Views.{is_in}
-
--- a column is the line of this actor
-abbrev pub on_life : ℕ → Column → Bool
-on_life actor (Life number) = number == actor
-on_life actor _ = false
+use Rattle.chart_drawing.specs.declared.view.View.{View}
+use Rattle.chart_drawing.specs.Views.{is_seen, is_part, on_life}
 
 -- a column is the lane of this link, or a rail of it
 abbrev pub on_link : ℕ → Column → Bool
@@ -34,15 +29,15 @@ does_to link _ = false
 abbrev pub is_of_link : ℕ → Mark → Bool
 is_of_link link m = on_link link m.column || does_to link m.kind
 
--- a mark of these steps stands on this actor's line
-abbrev pub has_actor : Steps → List Mark → ℕ → Bool
-has_actor steps marks actor =
-    list_any (λ (m : Mark). is_in steps m.line && on_life actor m.column) marks
+-- a mark that is seen stands on this actor's line
+abbrev pub has_actor : View → List Mark → ℕ → Bool
+has_actor view marks actor =
+    list_any (λ (m : Mark). is_seen view m && on_life actor m.column) marks
 
--- a mark of these steps is of this link
-abbrev pub has_link : Steps → List Mark → ℕ → Bool
-has_link steps marks link =
-    list_any (λ (m : Mark). is_in steps m.line && is_of_link link m) marks
+-- a mark that is seen is of this link
+abbrev pub has_link : View → List Mark → ℕ → Bool
+has_link view marks link =
+    list_any (λ (m : Mark). is_seen view m && is_of_link link m) marks
 
 -- one of the actors is on this node
 abbrev pub is_on_node : List DrawnActor → ℕ → Bool
@@ -68,28 +63,30 @@ is_of_one links m = list_any (λ (l : DrawnLink). is_of_link l.link.0 m) links
 abbrev pub stands_in : Setting → Mark → Bool
 stands_in setting m = is_on_line setting.actors m.column || is_of_one setting.links m
 
--- the actors of a window
-abbrev pub actors_in : Steps → List Mark → List DrawnActor → List DrawnActor
-actors_in steps marks actors =
-    filter (λ (a : DrawnActor). has_actor steps marks a.actor) actors
+-- the actors of a view
+abbrev pub actors_in : View → List Mark → List DrawnActor → List DrawnActor
+actors_in view marks actors =
+    filter (λ (a : DrawnActor). has_actor view marks a.actor) actors
 
--- the links of a window
-abbrev pub links_in : Steps → List Mark → List DrawnLink → List DrawnLink
-links_in steps marks links = filter (λ (l : DrawnLink). has_link steps marks l.link.0) links
+-- the links of a view
+abbrev pub links_in : View → List Mark → List DrawnLink → List DrawnLink
+links_in view marks links = filter (λ (l : DrawnLink). has_link view marks l.link.0) links
 
 -- the nodes of these actors and links
 abbrev pub nodes_of : List DrawnActor → List DrawnLink → List DrawnNode → List DrawnNode
 nodes_of actors links nodes =
     filter (λ (n : DrawnNode). has_node actors links n.node.0) nodes
 
--- WHAT A WINDOW IS LAID OUT ON: the actors and links of its marks, and their nodes; all of the
--- setting where there is no window
-abbrev pub setting_in : Option Steps → List Mark → Setting → Setting
-setting_in None marks setting = setting
-setting_in (Some steps) marks setting = record setting {
-  nodes =
-      nodes_of (actors_in steps marks setting.actors) (links_in steps marks setting.links)
-      setting.nodes;
-  links = links_in steps marks setting.links;
-  actors = actors_in steps marks setting.actors;
-}
+-- WHAT A VIEW IS LAID OUT ON: where it leaves out steps or makers, the actors and links of its marks,
+-- and their nodes; else all of the setting
+abbrev pub setting_in : List Mark → Setting → Setting
+setting_in marks setting =
+    if is_part setting.view
+    then record setting {
+      nodes =
+          nodes_of (actors_in setting.view marks setting.actors)
+          (links_in setting.view marks setting.links) setting.nodes;
+      links = links_in setting.view marks setting.links;
+      actors = actors_in setting.view marks setting.actors;
+    }
+    else setting

@@ -4,6 +4,7 @@ ghost use Rattle.std.specs.Option.{option_copied};
 ghost use Rattle.chart_drawing.specs.Arrows.{head_at, way_to, arrow, hook, arrow_from, signal_if};
 ghost use Rattle.chart_drawing.specs.Arrows.{signal_arrows, coming_from, coming_if, step_spot};
 ghost use Rattle.chart_drawing.specs.Arrows.{coming, comings, is_packet, carried, carried_by, lost};
+ghost use Rattle.chart_drawing.specs.Arrows.{sent_off};
 
 use crate::cells::{beside, in_cell, in_lane, lane_line, line_to, move_to, put_path};
 use crate::life_marks::{put_cross, put_leaving};
@@ -113,7 +114,7 @@ const NOTICE: Look = Look {
     head: Class::NoticeHead,
 };
 
-fn is_packet(kind: MarkKind) -> bool
+pub(crate) fn is_packet(kind: MarkKind) -> bool
     ensures { result ≡ is_packet kind }
 {
     match kind {
@@ -140,14 +141,31 @@ fn put_carried(out: &mut Vec<Shape>, from: &Spot, packet: &Spot) -> Result<(), N
 }
 
 /// A signal over a link that came with a step.
-fn put_carried_by(out: &mut Vec<Shape>, from: &Spot, step: Option<&Spot>) -> Result<(), NoMemory>
+fn put_carried_by(
+    out: &mut Vec<Shape>,
+    from: &Spot,
+    to: &Spot,
+    step: Option<&Spot>,
+) -> Result<(), NoMemory>
     ensures { OnOk result (out.new.items
-        ≡ out.old.items ++ carried_by from.now (option_copied step.entry)) }
+        ≡ out.old.items ++ carried_by from.now to.now (option_copied step.entry)) }
 {
     match step {
         Some(step) if is_packet(step.mark.kind) => put_carried(out, from, step),
-        _ => Ok(()),
+        Some(_) => Ok(()),
+        None => put_arrow_from(out, SIGNAL, from, to),
     }
+}
+
+/// A signal that goes where nothing is drawn.
+fn put_sent_off(out: &mut Vec<Shape>, from: &Spot) -> Result<(), NoMemory>
+    ensures { OnOk result (out.new.items ≡ out.old.items ++ sent_off from.now) }
+{
+    if !from.seen {
+        return Ok(());
+    }
+    put_leaving(out, from)?;
+    put_head(out, Class::SignalHead, from, 56, 48)
 }
 
 /// A signal that never arrived.
@@ -171,7 +189,10 @@ fn put_signal(
 {
     match (kind, from, to) {
         (TieKind::Signal, Some(from), Some(to)) => put_arrow_from(out, SIGNAL, from, to),
-        (TieKind::Carried, Some(from), Some(to)) => put_carried_by(out, from, step_spot(spots, to)),
+        (TieKind::Carried, Some(from), Some(to)) => {
+            put_carried_by(out, from, to, step_spot(spots, to))
+        }
+        (TieKind::Carried, Some(from), None) => put_sent_off(out, from),
         (TieKind::Lost, Some(from), Some(_)) => put_lost(out, from),
         _ => Ok(()),
     }

@@ -1,19 +1,23 @@
 //! Labels of marks, and the lines at the left.
-ghost use Rattle.std.specs.Prelude.{◌≡◌, ◌≤◌, ◌++◌, [], ◌∷◌, length, flat_map, decimal, OnOk, IfOk};
-ghost use Rattle.std.specs.Prelude.{◌+◌};
+ghost use Rattle.std.specs.Prelude.{◌≡◌, ◌≤◌, ◌++◌, [], ◌∷◌, length, decimal, OnOk, IfOk};
+ghost use Rattle.std.specs.Prelude.{◌+◌, if◌then◌else◌};
 ghost use Rattle.svg_text.specs.declared.shape.Shape.TheVariants.{Words};
 ghost use Rattle.chart_drawing.specs.Rows.{cut, anchor_of, side_point, lane_words, label_class};
 ghost use Rattle.chart_drawing.specs.Rows.{send_class, packet_label, label_shape, label_room};
-ghost use Rattle.chart_drawing.specs.Rows.{label_if, label_shapes, line_shapes, line_words};
-ghost use Rattle.chart_drawing.specs.Rows.{position_shapes, line_class};
+ghost use Rattle.chart_drawing.specs.Folds.{run_of};
+ghost use Rattle.chart_drawing.specs.Rows.{label_if, label_shapes, run_label, labels_of};
+ghost use Rattle.chart_drawing.specs.Rows.{line_shapes, lines_of, is_numbered, position_shapes};
+ghost use Rattle.chart_drawing.specs.Rows.{line_class};
 ghost use Rattle.chart_drawing.specs.Spots.{point, row_top};
 
 use crate::cells::{in_cell, in_lane, put_words, row_top};
 use crate::labels::label_of;
 use crate::layout::gap;
-use crate::rows::{put_bytes, put_number, words_at};
+use crate::rows::{put_bytes, put_number, row_words, words_at};
+use crate::runs::{is_run, run_of};
 use crate::setting::Setting;
 use crate::spot::Spot;
+use crate::view::View;
 use chart::{Column, MarkKind};
 use journal::SentTo;
 use linx_base::{Blob, NoMemory, Verdict};
@@ -24,7 +28,7 @@ use svg_text::{Anchor, Class, Point, Shape};
 const LINE_ROOM: usize = 42;
 
 /// Words cut to a length, with two dots where some are left out.
-pub(crate) fn cut(alloc: Global, most: usize, words: &[u8]) -> Result<Vec<u8>, NoMemory>
+pub fn cut(alloc: Global, most: usize, words: &[u8]) -> Result<Vec<u8>, NoMemory>
     requires { 2 ≤ most }
     ensures { IfOk result (λ made. made.items ≡ cut most words.now) }
 {
@@ -87,7 +91,7 @@ fn send_class(answer: SentTo) -> Class
 }
 
 /// How a label looks.
-fn label_class(kind: MarkKind) -> Class
+pub fn label_class(kind: MarkKind) -> Class
     ensures { result ≡ label_class kind }
 {
     match kind {
@@ -192,8 +196,8 @@ fn put_label_if(
     put_label(out, spot, spot.mark.kind, &words)
 }
 
-/// The label of a row.
-fn put_row_label(
+/// The label of a mark.
+fn put_mark_label(
     out: &mut Vec<Shape>,
     setting: &Setting,
     lines: &[Blob],
@@ -202,8 +206,30 @@ fn put_row_label(
     ensures { OnOk result (out.new.items
         ≡ out.old.items ++ label_shapes setting.now lines.now spot.now) }
 {
-    let label = label_of(*out.allocator(), spot.mark.kind, words_at(lines, spot.row))?;
+    let label = label_of(
+        *out.allocator(),
+        spot.mark.kind,
+        words_at(lines, spot.place),
+    )?;
     put_label_if(out, setting, spot, &label)
+}
+
+/// The label of a row that begins at a spot, the first of these, unless it shares one.
+fn put_row_label(
+    out: &mut Vec<Shape>,
+    setting: &Setting,
+    lines: &[Blob],
+    spot: &Spot,
+    spots: &[Spot],
+) -> Result<(), NoMemory>
+    ensures { OnOk result (out.new.items ≡ out.old.items
+        ++ (if spot.now.folded then []
+        else run_label setting.now lines.now spot.now (run_of spot.now.row spots.now))) }
+{
+    if spot.folded || is_run(run_of(spot.row, spots)) {
+        return Ok(());
+    }
+    put_mark_label(out, setting, lines, spot)
 }
 
 /// The labels of all rows.
@@ -214,10 +240,10 @@ pub(crate) fn put_labels(
     spots: &[Spot],
 ) -> Result<(), NoMemory>
     ensures { OnOk result (out.new.items
-        ≡ out.old.items ++ flat_map (label_shapes setting.now lines.now) spots.now) }
+        ≡ out.old.items ++ labels_of setting.now lines.now spots.now) }
 {
-    for spot in spots {
-        put_row_label(out, setting, lines, spot)?;
+    for index in 0..spots.len() {
+        put_row_label(out, setting, lines, &spots[index], &spots[index..])?;
     }
     Ok(())
 }
@@ -241,11 +267,19 @@ fn put_left(
     put_words(out, class, anchor, point, words)
 }
 
-/// The position of a step, before its line.
-fn put_position(out: &mut Vec<Shape>, spot: &Spot) -> Result<(), NoMemory>
-    ensures { OnOk result (out.new.items ≡ out.old.items ++ position_shapes spot.now) }
+/// Whether the position of its step stands before a row.
+fn is_numbered(view: &View, spot: &Spot) -> bool
+    ensures { result ≡ is_numbered view.now spot.now }
 {
-    if spot.mark.line.place != 0 {
+    spot.mark.line.place == 0 || view.of.is_some()
+}
+
+/// The position of a step, before a row.
+fn put_position(out: &mut Vec<Shape>, view: &View, spot: &Spot) -> Result<(), NoMemory>
+    ensures { OnOk result (out.new.items
+        ≡ out.old.items ++ position_shapes view.now spot.now) }
+{
+    if !is_numbered(view, spot) {
         return Ok(());
     }
     let mut number = Vec::new(*out.allocator());
@@ -264,31 +298,56 @@ fn line_class(place: u64) -> Class
     }
 }
 
-/// The line of a row, unless lines are left out, and before that of a step its position.
-fn put_line(out: &mut Vec<Shape>, plain: bool, lines: &[Blob], spot: &Spot) -> Result<(), NoMemory>
-    ensures { OnOk result (out.new.items ≡ out.old.items ++ line_shapes plain lines.now spot.now) }
+/// The words of a row, unless lines are left out, and before them a position.
+fn put_line(
+    out: &mut Vec<Shape>,
+    view: &View,
+    lines: &[Blob],
+    spot: &Spot,
+    run: &[Spot],
+) -> Result<(), NoMemory>
+    ensures { OnOk result (out.new.items
+        ≡ out.old.items ++ line_shapes view.now lines.now spot.now run.now) }
 {
-    put_position(out, spot)?;
-    if plain {
+    put_position(out, view, spot)?;
+    if view.plain {
         return Ok(());
     }
-    let words = cut(*out.allocator(), LINE_ROOM, words_at(lines, spot.row))?;
+    let words = row_words(*out.allocator(), lines, spot, run)?;
+    let words = cut(*out.allocator(), LINE_ROOM, &words)?;
     let class = line_class(spot.mark.line.place);
     put_left(out, class, Anchor::Start, 60, spot.row, &words)
+}
+
+/// The line of a row that begins at a spot, the first of these, unless it shares one.
+fn put_row_line(
+    out: &mut Vec<Shape>,
+    view: &View,
+    lines: &[Blob],
+    spot: &Spot,
+    spots: &[Spot],
+) -> Result<(), NoMemory>
+    ensures { OnOk result (out.new.items ≡ out.old.items
+        ++ (if spot.now.folded then []
+        else line_shapes view.now lines.now spot.now (run_of spot.now.row spots.now))) }
+{
+    if spot.folded {
+        return Ok(());
+    }
+    put_line(out, view, lines, spot, run_of(spot.row, spots))
 }
 
 /// The lines of all rows.
 pub(crate) fn put_lines(
     out: &mut Vec<Shape>,
-    plain: bool,
+    view: &View,
     lines: &[Blob],
     spots: &[Spot],
 ) -> Result<(), NoMemory>
-    ensures { OnOk result (out.new.items
-        ≡ out.old.items ++ flat_map (line_shapes plain lines.now) spots.now) }
+    ensures { OnOk result (out.new.items ≡ out.old.items ++ lines_of view.now lines.now spots.now) }
 {
-    for spot in spots {
-        put_line(out, plain, lines, spot)?;
+    for index in 0..spots.len() {
+        put_row_line(out, view, lines, &spots[index], &spots[index..])?;
     }
     Ok(())
 }

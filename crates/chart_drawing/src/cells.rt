@@ -84,7 +84,7 @@ pub(crate) fn lane_line(spot: &Spot, along: u16, down: u16) -> Stroke
 }
 
 /// A box.
-pub(crate) fn put_box(out: &mut Vec<Shape>, class: Class, area: Area) -> Result<(), NoMemory>
+pub fn put_box(out: &mut Vec<Shape>, class: Class, area: Area) -> Result<(), NoMemory>
     ensures { OnOk result (out.new.items ≡ out.old.items ++ Box class area ∷ []) }
 {
     out.push(Shape::Box(class, area))?;
@@ -105,11 +105,7 @@ pub(crate) fn put_circle(
 }
 
 /// A path of these strokes.
-pub(crate) fn put_path(
-    out: &mut Vec<Shape>,
-    class: Class,
-    strokes: &[Stroke],
-) -> Result<(), NoMemory>
+pub fn put_path(out: &mut Vec<Shape>, class: Class, strokes: &[Stroke]) -> Result<(), NoMemory>
     ensures { OnOk result (out.new.items ≡ out.old.items ++ Path class strokes.now ∷ []) }
 {
     let strokes = Vec::from_slice(*out.allocator(), strokes)?;
@@ -118,7 +114,7 @@ pub(crate) fn put_path(
 }
 
 /// Words at a point.
-pub(crate) fn put_words(
+pub fn put_words(
     out: &mut Vec<Shape>,
     class: Class,
     anchor: Anchor,

@@ -13,9 +13,10 @@ use crate::columns::node_of;
 use crate::layout::{
     actors_on, box_left, box_width, earlier_end, gap, lane_left, later_end, life_left, width_of,
 };
-use crate::rows::{put_bytes, put_number};
+use crate::rows::put_bytes;
 use crate::setting::{DrawnActor, DrawnLink, DrawnNode, Setting};
 use crate::spot::{Spot, same_column};
+use crate::view::is_part;
 use chart::{Column, MarkKind};
 use linx_base::NoMemory;
 use std::alloc::Global;
@@ -72,12 +73,12 @@ fn kind_and_name(alloc: Global, kind: &[u8], name: &[u8]) -> Result<Vec<u8>, NoM
     Ok(words)
 }
 
-/// Whether no box is drawn for a node: in a window, where none of its actors is seen.
+/// Whether no box is drawn for a node: in a part of a chart, where none of its actors is seen.
 fn is_bare(setting: &Setting, node: u32) -> bool
     requires { IsNarrow setting.now }
     ensures { result ≡ is_bare setting.now node }
 {
-    setting.view.steps.is_some() && actors_on(setting, node) == 0
+    is_part(&setting.view) && actors_on(setting, node) == 0
 }
 
 /// The box of a node, and its name over it.
@@ -303,7 +304,7 @@ fn put_life(
     }
 }
 
-/// How many characters of an actor's name there is room for.
+/// How many characters of an actor's captions there is room for.
 fn name_room(setting: &Setting) -> usize
     ensures room { result ≡ name_room setting.now }
     ensures some { 2 ≤ result }
@@ -311,7 +312,7 @@ fn name_room(setting: &Setting) -> usize
     gap(setting) as usize / 7
 }
 
-/// The line of an actor, and its number and name over it.
+/// The line of an actor, and its captions over it.
 fn put_actor(
     out: &mut Vec<Shape>,
     setting: &Setting,
@@ -325,16 +326,14 @@ fn put_actor(
 {
     let alloc = *out.allocator();
     let x = u32::from(life_left(setting, actor)) + 32;
-    let mut number = Vec::new(alloc);
-    put_bytes(&mut number, b"A")?;
-    put_number(&mut number, u64::from(actor.actor))?;
-    put_title(out, Class::Strong, x, 44, &number)?;
-    let name = cut(alloc, name_room(setting), actor.name.bytes())?;
-    put_title(out, Class::Faint, x, 58, &name)?;
+    let caption = cut(alloc, name_room(setting), actor.caption.bytes())?;
+    put_title(out, Class::Strong, x, 44, &caption)?;
+    let subcaption = cut(alloc, name_room(setting), actor.subcaption.bytes())?;
+    put_title(out, Class::Faint, x, 58, &subcaption)?;
     put_life(out, rows, x, first_of(spots, actor), last_of(spots, actor))
 }
 
-/// The lines of all actors, with their numbers and names over them.
+/// The lines of all actors, with their captions over them.
 pub(crate) fn put_actors(
     out: &mut Vec<Shape>,
     setting: &Setting,

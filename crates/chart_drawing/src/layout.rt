@@ -14,7 +14,7 @@ use linx_base::Side;
 const MOST: usize = 64;
 
 /// Whether the setting is narrow enough to be drawn.
-pub(crate) fn is_narrow(setting: &Setting) -> bool
+pub fn is_narrow(setting: &Setting) -> bool
     ensures { result ≡ is_narrow setting.now }
 {
     setting.nodes.len() <= MOST && setting.links.len() <= MOST && setting.actors.len() <= MOST
@@ -28,7 +28,7 @@ pub(crate) fn earlier_end(link: &DrawnLink) -> u32
 }
 
 /// The number of the node at a link's right rail.
-pub(crate) fn later_end(link: &DrawnLink) -> u32
+pub fn later_end(link: &DrawnLink) -> u32
     ensures { result ≡ later_end link.now }
 {
     link.first.0.max(link.second.0)
@@ -92,8 +92,9 @@ fn gaps(setting: &Setting, count: usize) -> u16
     }
 }
 
+/// How many nodes have a lower number.
 #[tactic(auto, using(crate::proofs::Counts::filter_short))]
-fn nodes_before(setting: &Setting, node: u32) -> usize
+pub fn nodes_before(setting: &Setting, node: u32) -> usize
     requires { IsNarrow setting.now }
     ensures count { result ≡ nodes_before setting.now node }
     ensures bound { result ≤ 64 }
@@ -106,8 +107,9 @@ fn nodes_before(setting: &Setting, node: u32) -> usize
         .count()
 }
 
+/// How many actors are on nodes with a lower number.
 #[tactic(auto, using(crate::proofs::Counts::filter_short))]
-fn actors_before(setting: &Setting, node: u32) -> usize
+pub fn actors_before(setting: &Setting, node: u32) -> usize
     requires { IsNarrow setting.now }
     ensures count { result ≡ actors_before setting.now node }
     ensures bound { result ≤ 64 }
@@ -122,7 +124,7 @@ fn actors_before(setting: &Setting, node: u32) -> usize
 
 /// How many actors are on a node.
 #[tactic(auto, using(crate::proofs::Counts::filter_short))]
-pub(crate) fn actors_on(setting: &Setting, node: u32) -> usize
+pub fn actors_on(setting: &Setting, node: u32) -> usize
     requires { IsNarrow setting.now }
     ensures count { result ≡ actors_on setting.now node }
     ensures bound { result ≤ 64 }
@@ -135,8 +137,9 @@ pub(crate) fn actors_on(setting: &Setting, node: u32) -> usize
         .count()
 }
 
+/// How many actors of a node have a lower number than this one.
 #[tactic(auto, using(crate::proofs::Counts::filter_short))]
-fn actors_left(setting: &Setting, node: u32, actor: u32) -> usize
+pub fn actors_left(setting: &Setting, node: u32, actor: u32) -> usize
     requires { IsNarrow setting.now }
     ensures count { result ≡ actors_left setting.now node actor }
     ensures bound { result ≤ 64 }
@@ -147,8 +150,9 @@ fn actors_left(setting: &Setting, node: u32, actor: u32) -> usize
         .count()
 }
 
+/// How many links have their later end at a node with a lower number.
 #[tactic(auto, using(crate::proofs::Counts::filter_short))]
-fn links_before(setting: &Setting, node: u32) -> usize
+pub fn links_before(setting: &Setting, node: u32) -> usize
     requires { IsNarrow setting.now }
     ensures count { result ≡ links_before setting.now node }
     ensures bound { result ≤ 64 }
@@ -161,8 +165,9 @@ fn links_before(setting: &Setting, node: u32) -> usize
         .count()
 }
 
+/// How many links have their later end at this node.
 #[tactic(auto, using(crate::proofs::Counts::filter_short))]
-fn links_to(setting: &Setting, node: u32) -> usize
+pub fn links_to(setting: &Setting, node: u32) -> usize
     requires { IsNarrow setting.now }
     ensures count { result ≡ links_to setting.now node }
     ensures bound { result ≤ 64 }
@@ -175,8 +180,9 @@ fn links_to(setting: &Setting, node: u32) -> usize
         .count()
 }
 
+/// How many links have their later end at this node, and a lower number than this one.
 #[tactic(auto, using(crate::proofs::Counts::filter_short))]
-fn links_left(setting: &Setting, node: u32, link: u32) -> usize
+pub fn links_left(setting: &Setting, node: u32, link: u32) -> usize
     requires { IsNarrow setting.now }
     ensures count { result ≡ links_left setting.now node link }
     ensures bound { result ≤ 64 }

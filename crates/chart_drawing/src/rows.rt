@@ -1,9 +1,9 @@
-//! The rows, one for each mark, and the words beside them.
-ghost use Rattle.std.specs.Prelude.{◌≡◌, ◌++◌, [], ◌∷◌, length, map, flat_map, decimal, OnOk, IfOk};
-ghost use Rattle.std.specs.Prelude.{List, ℕ};
+//! The rows, and the words beside them.
+ghost use Rattle.std.specs.Prelude.{◌≡◌, ◌++◌, [], ◌∷◌, decimal, if◌then◌else◌, OnOk, IfOk};
 ghost use Rattle.chart_drawing.specs.Layout.{IsNarrow};
-ghost use Rattle.chart_drawing.specs.Rows.{mark_shapes, words_at, cut, row_title, hit_shape};
-ghost use Rattle.chart_drawing.specs.Rows.{row_of, rows_of};
+ghost use Rattle.chart_drawing.specs.Folds.{run_of};
+ghost use Rattle.chart_drawing.specs.Rows.{mark_shapes, words_at, row_words, row_title, hit_shape};
+ghost use Rattle.chart_drawing.specs.Rows.{run_shapes, row_of, rows_of};
 
 use crate::cells::{put_box, row_top};
 use crate::lane_marks::{put_packet, put_tick};
@@ -12,6 +12,7 @@ use crate::life_marks::{
     put_cross, put_diamond, put_down, put_ended, put_flat, put_gone, put_level, put_met, put_none,
     put_ring, put_send, put_square, put_struck, put_take, put_upright,
 };
+use crate::runs::{is_run, put_fold, put_fold_words, run_of};
 use crate::setting::Setting;
 use crate::spot::Spot;
 use chart::MarkKind;
@@ -54,18 +55,18 @@ fn put_mark(out: &mut Vec<Shape>, spot: &Spot, kind: MarkKind) -> Result<(), NoM
     }
 }
 
-/// The words of a row, no words where there are none.
-pub(crate) fn words_at(all: &[Blob], row: u16) -> &[u8]
-    ensures { result.now ≡ words_at all.now row }
+/// The words of a mark's line, by its place; no words where there are none.
+pub(crate) fn words_at(all: &[Blob], place: usize) -> &[u8]
+    ensures { result.now ≡ words_at all.now place }
 {
-    match all.get(row as usize) {
+    match all.get(place) {
         Some(words) => words.bytes(),
         None => b"",
     }
 }
 
 /// Any bytes.
-pub(crate) fn put_bytes(out: &mut Vec<u8>, bytes: &[u8]) -> Result<(), NoMemory>
+pub fn put_bytes(out: &mut Vec<u8>, bytes: &[u8]) -> Result<(), NoMemory>
     ensures { OnOk result (out.new.items ≡ out.old.items ++ bytes.now) }
 {
     out.extend_from_slice(bytes)?;
@@ -73,21 +74,40 @@ pub(crate) fn put_bytes(out: &mut Vec<u8>, bytes: &[u8]) -> Result<(), NoMemory>
 }
 
 /// A number in decimal digits.
-pub(crate) fn put_number(out: &mut Vec<u8>, number: u64) -> Result<(), NoMemory>
+pub fn put_number(out: &mut Vec<u8>, number: u64) -> Result<(), NoMemory>
     ensures { OnOk result (out.new.items ≡ out.old.items ++ decimal number) }
 {
     let mut buffer = Buffer::new();
     put_bytes(out, buffer.format(number).as_bytes())
 }
 
+/// The words of a row of these marks, of which this is the first.
+pub(crate) fn row_words(
+    alloc: Global,
+    lines: &[Blob],
+    spot: &Spot,
+    run: &[Spot],
+) -> Result<Vec<u8>, NoMemory>
+    ensures { IfOk result (λ words. words.items ≡ row_words lines.now spot.now run.now) }
+{
+    let mut words = Vec::new(alloc);
+    if is_run(run) {
+        put_fold_words(&mut words, run)?;
+    } else {
+        put_bytes(&mut words, words_at(lines, spot.place))?;
+    }
+    Ok(words)
+}
+
 /// The title of a row.
-fn row_title(alloc: Global, lines: &[Blob], spot: &Spot) -> Result<Blob, NoMemory>
-    ensures { IfOk result (λ title. title ≡ row_title lines.now spot.now) }
+fn row_title(alloc: Global, lines: &[Blob], spot: &Spot, run: &[Spot]) -> Result<Blob, NoMemory>
+    ensures { IfOk result (λ title. title ≡ row_title lines.now spot.now run.now) }
 {
     let mut title = Vec::new(alloc);
     put_number(&mut title, spot.mark.line.step)?;
     put_bytes(&mut title, b" ")?;
-    put_bytes(&mut title, words_at(lines, spot.row))?;
+    let words = row_words(alloc, lines, spot, run)?;
+    put_bytes(&mut title, &words)?;
     Blob::shared(title)
 }
 
@@ -107,21 +127,72 @@ fn put_hit(out: &mut Vec<Shape>, setting: &Setting, spot: &Spot) -> Result<(), N
     put_box(out, Class::Hit, area)
 }
 
-/// The row of a mark.
-fn row_of(alloc: Global, setting: &Setting, lines: &[Blob], spot: &Spot) -> Result<Row, NoMemory>
+/// What a row of these marks shows.
+fn put_run(
+    out: &mut Vec<Shape>,
+    setting: &Setting,
+    spot: &Spot,
+    run: &[Spot],
+) -> Result<(), NoMemory>
     requires { IsNarrow setting.now }
-    ensures { IfOk result (λ row. row ≡ row_of setting.now lines.now spot.now) }
+    ensures { OnOk result (out.new.items
+        ≡ out.old.items ++ run_shapes setting.now spot.now run.now) }
 {
-    let title = row_title(alloc, lines, spot)?;
+    if is_run(run) {
+        put_fold(out, setting, spot.row, run, setting.links.as_slice())
+    } else {
+        put_mark(out, spot, spot.mark.kind)
+    }
+}
+
+/// The row of these marks.
+fn row_of(
+    alloc: Global,
+    setting: &Setting,
+    lines: &[Blob],
+    spot: &Spot,
+    run: &[Spot],
+) -> Result<Row, NoMemory>
+    requires { IsNarrow setting.now }
+    ensures { IfOk result (λ row. row ≡ row_of setting.now lines.now spot.now run.now) }
+{
+    let title = row_title(alloc, lines, spot, run)?;
     let mut shapes = Vec::new(alloc);
     put_hit(&mut shapes, setting, spot)?;
-    put_mark(&mut shapes, spot, spot.mark.kind)?;
+    put_run(&mut shapes, setting, spot, run)?;
     Ok(Row {
         step: spot.mark.line.step,
         effect: spot.mark.line.place,
         title,
         shapes: Sequence::of(shapes),
     })
+}
+
+/// Adds the row that begins at a spot, the first of these, unless it shares one.
+fn put_row(
+    rows: &mut Vec<Row>,
+    setting: &Setting,
+    lines: &[Blob],
+    spot: &Spot,
+    spots: &[Spot],
+) -> Result<(), NoMemory>
+    requires { IsNarrow setting.now }
+    ensures { OnOk result (rows.new.items ≡ rows.old.items
+        ++ (if spot.now.folded then []
+        else row_of setting.now lines.now spot.now (run_of spot.now.row spots.now) ∷ [])) }
+{
+    if spot.folded {
+        return Ok(());
+    }
+    let row = row_of(
+        *rows.allocator(),
+        setting,
+        lines,
+        spot,
+        run_of(spot.row, spots),
+    )?;
+    rows.push(row)?;
+    Ok(())
 }
 
 /// The rows of all marks, in the same order.
@@ -134,9 +205,9 @@ pub(crate) fn rows_of(
     requires { IsNarrow setting.now }
     ensures { IfOk result (λ rows. rows.items ≡ rows_of setting.now lines.now spots.now) }
 {
-    let mut rows = Vec::with_capacity(alloc, spots.len())?;
-    for spot in spots {
-        rows.push(row_of(alloc, setting, lines, spot)?)?;
+    let mut rows = Vec::new(alloc);
+    for index in 0..spots.len() {
+        put_row(&mut rows, setting, lines, &spots[index], &spots[index..])?;
     }
     Ok(rows)
 }

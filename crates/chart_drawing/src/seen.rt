@@ -1,27 +1,17 @@
-//! Which columns a window has: those in which one of its marks stands.
+//! Which columns a part of a chart has: those in which one of the marks stands that are seen.
 ghost use Rattle.std.specs.Prelude.{◌≡◌};
-ghost use Rattle.chart_drawing.specs.Seen.{on_life, on_link, does_to, is_of_link, has_actor};
+ghost use Rattle.chart_drawing.specs.Seen.{on_link, does_to, is_of_link, has_actor};
 ghost use Rattle.chart_drawing.specs.Seen.{has_link, is_on_node, ends_at, is_on_line};
 ghost use Rattle.chart_drawing.specs.Seen.{is_of_one, stands_in, setting_in, has_node};
 ghost use Rattle.chart_drawing.specs.Seen.{actors_in, links_in, nodes_of};
 
 use crate::setting::{DrawnActor, DrawnLink, DrawnNode, Setting};
-use crate::view::{Steps, is_in};
+use crate::view::{View, is_part, is_seen, on_life};
 use chart::{Column, Mark, MarkKind};
 use linx_base::Sequence;
 
-/// Whether a column is the line of an actor.
-fn on_life(actor: u32, column: Column) -> bool
-    ensures { result ≡ on_life actor column }
-{
-    match column {
-        Column::Life(number) => number == actor,
-        _ => false,
-    }
-}
-
 /// Whether a column is the lane of a link, or a rail of it.
-fn on_link(link: u32, column: Column) -> bool
+pub(crate) fn on_link(link: u32, column: Column) -> bool
     ensures { result ≡ on_link link column }
 {
     match column {
@@ -46,22 +36,22 @@ fn is_of_link(link: u32, mark: &Mark) -> bool
     on_link(link, mark.column) || does_to(link, mark.kind)
 }
 
-/// Whether one of the marks of these steps stands on an actor's line.
-fn has_actor(steps: Steps, marks: &[Mark], actor: u32) -> bool
-    ensures { result ≡ has_actor steps marks.now actor }
+/// Whether one of the marks that are seen stands on an actor's line.
+fn has_actor(view: &View, marks: &[Mark], actor: u32) -> bool
+    ensures { result ≡ has_actor view.now marks.now actor }
 {
     marks
         .iter()
-        .any(|m| is_in(steps, m.line) && on_life(actor, m.column))
+        .any(|m| is_seen(view, m) && on_life(actor, m.column))
 }
 
 /// Whether one of them is of a link.
-fn has_link(steps: Steps, marks: &[Mark], link: u32) -> bool
-    ensures { result ≡ has_link steps marks.now link }
+fn has_link(view: &View, marks: &[Mark], link: u32) -> bool
+    ensures { result ≡ has_link view.now marks.now link }
 {
     marks
         .iter()
-        .any(|m| is_in(steps, m.line) && is_of_link(link, m))
+        .any(|m| is_seen(view, m) && is_of_link(link, m))
 }
 
 fn is_on_node(actors: &[DrawnActor], node: u32) -> bool
@@ -104,19 +94,19 @@ pub(crate) fn stands_in(setting: &Setting, mark: &Mark) -> bool
     is_on_line(setting.actors.as_slice(), mark.column) || is_of_one(setting.links.as_slice(), mark)
 }
 
-fn actors_in(actors: Sequence<DrawnActor>, steps: Steps, marks: &[Mark]) -> Sequence<DrawnActor>
-    ensures { result ≡ actors_in steps marks.now actors }
+fn actors_in(actors: Sequence<DrawnActor>, view: &View, marks: &[Mark]) -> Sequence<DrawnActor>
+    ensures { result ≡ actors_in view.now marks.now actors }
 {
     let mut kept = actors.into_vec();
-    kept.retain(|a| has_actor(steps, marks, a.actor));
+    kept.retain(|a| has_actor(view, marks, a.actor));
     Sequence::of(kept)
 }
 
-fn links_in(links: Sequence<DrawnLink>, steps: Steps, marks: &[Mark]) -> Sequence<DrawnLink>
-    ensures { result ≡ links_in steps marks.now links }
+fn links_in(links: Sequence<DrawnLink>, view: &View, marks: &[Mark]) -> Sequence<DrawnLink>
+    ensures { result ≡ links_in view.now marks.now links }
 {
     let mut kept = links.into_vec();
-    kept.retain(|l| has_link(steps, marks, l.link.0));
+    kept.retain(|l| has_link(view, marks, l.link.0));
     Sequence::of(kept)
 }
 
@@ -132,21 +122,22 @@ fn nodes_of(
     Sequence::of(kept)
 }
 
-/// The columns of a setting in which marks of the window stand; all where there is no window.
+/// The columns of a setting in which marks stand that are seen; all where nothing is left out.
 pub(crate) fn setting_in(setting: Setting, marks: &[Mark]) -> Setting
-    ensures { result ≡ setting_in setting.view.steps marks.now setting }
+    ensures setting { result ≡ setting_in marks.now setting }
+    ensures view { result.view ≡ setting.view }
 {
-    let Some(steps) = setting.view.steps else {
+    if !is_part(&setting.view) {
         return setting;
-    };
+    }
     let Setting {
         view,
         nodes,
         links,
         actors,
     } = setting;
-    let actors = actors_in(actors, steps, marks);
-    let links = links_in(links, steps, marks);
+    let actors = actors_in(actors, &view, marks);
+    let links = links_in(links, &view, marks);
     let nodes = nodes_of(nodes, actors.as_slice(), links.as_slice());
     Setting {
         view,

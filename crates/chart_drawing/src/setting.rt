@@ -19,12 +19,13 @@ pub struct DrawnLink {
     pub second: NodeNo,
 }
 
-/// An actor of a node, with its name.
+/// An actor of a node, with what it is called over its line, and what else is said of it below that.
 #[derive(Drop)]
 pub struct DrawnActor {
     pub actor: u32,
     pub node: NodeNo,
-    pub name: Blob,
+    pub caption: Blob,
+    pub subcaption: Blob,
 }
 
 /// What a run is laid out on, and what of it is seen. Nodes stand in the order of their numbers, and

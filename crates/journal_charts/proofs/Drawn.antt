@@ -10,24 +10,22 @@ use Rattle.svg_text.specs.declared.picture.Picture.{Picture}
 use Rattle.svg_text.specs.Texts.{picture_text}
 use Rattle.journal_charts.specs.Charts.{text_if}
 
--- a drawing of the same chart in the same setting
-drawn_again : (setting given : Setting) (chart shown : Chart) (drawing : Result Picture DrawError)
-    → setting ≡ given → chart ≡ shown → drawn setting chart ≡ drawing → drawn given shown ≡ drawing
-drawn_again setting given chart shown drawing stands is now =
-    ap (λ (s : Setting). drawn s shown) (sym stands) ∙ ap (λ (c : Chart). drawn setting c) (sym is)
-    ∙ now
+-- a drawing of the same chart
+drawn_again : (setting : Setting) (chart shown : Chart) (drawing : Result Picture DrawError)
+    → chart ≡ shown → drawn setting chart ≡ drawing → drawn setting shown ≡ drawing
+drawn_again setting chart shown drawing is now =
+    ap (λ (c : Chart). drawn setting c) (sym is) ∙ now
 
-pub written : (setting given : Setting) (chart shown : Chart) (picture : Picture) (svg : List ℕ)
-    → setting ≡ given → chart ≡ shown → drawn setting chart ≡ Ok picture
-    → svg ≡ picture_text picture → text_if (drawn given shown) ≡ Ok svg
-written setting given chart shown picture svg stands is now text =
-    rw text (ap text_if (drawn_again setting given chart shown (Ok picture) stands is now))
+pub written : (setting : Setting) (chart shown : Chart) (picture : Picture) (svg : List ℕ)
+    → chart ≡ shown → drawn setting chart ≡ Ok picture → svg ≡ picture_text picture
+    → text_if (drawn setting shown) ≡ Ok svg
+written setting chart shown picture svg is now text =
+    rw text (ap text_if (drawn_again setting chart shown (Ok picture) is now))
 
-pub not_written : (setting given : Setting) (chart shown : Chart) (e : DrawError)
-    → setting ≡ given → chart ≡ shown → drawn setting chart ≡ Err e
-    → text_if (drawn given shown) ≡ Err e
-not_written setting given chart shown e stands is now =
-    ap text_if (drawn_again setting given chart shown (Err e) stands is now)
+pub not_written : (setting : Setting) (chart shown : Chart) (e : DrawError)
+    → chart ≡ shown → drawn setting chart ≡ Err e → text_if (drawn setting shown) ≡ Err e
+not_written setting chart shown e is now =
+    ap text_if (drawn_again setting chart shown (Err e) is now)
 
 -- what holds of an error holds where it is passed on
 pub passed_on : {T E : Type 0} (r : Result T E) (e : E) (P : E → Type 0)

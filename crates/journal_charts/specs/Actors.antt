@@ -1,7 +1,7 @@
 -- The actors of a journal: those that made steps, with the node and the name of the first endpoint
 -- that each of them opened.
 use Rattle.std.specs.Prelude.{ℕ, Bool, true, false, ◌==◌, ◌&&◌, List, [], ◌∷◌, ◌++◌, map, slice_get}
-use Rattle.std.specs.Prelude.{Option, Some, None, if◌then◌else◌}
+use Rattle.std.specs.Prelude.{Option, Some, None, if◌then◌else◌, codes, decimal}
 use Rattle.std.specs.List.{list_any}
 use Rattle.linx_base.specs.Numbers.{node_of}
 use Rattle.linx_base.specs.declared.identity.NodeNo.{NodeNo}
@@ -78,12 +78,17 @@ abbrev pub name_of_open : Option Step → List ℕ
 name_of_open None = []
 name_of_open (Some s) = name_in s.head
 
--- an actor with the node and the name of its first endpoint
+-- what an actor without a name is called: `A`, and its number
+abbrev pub numbered_name : ℕ → List ℕ
+numbered_name actor = codes "A" ++ decimal actor
+
+-- an actor with its number, and the node and the name of its first endpoint
 abbrev pub drawn_actor : List Step → ℕ → DrawnActor
 drawn_actor S actor = record {
   actor = actor;
   node = node_of_opening (first_open S actor);
-  name = name_of_open (first_open S actor);
+  caption = numbered_name actor;
+  subcaption = name_of_open (first_open S actor);
 }
 
 -- ALL ACTORS THAT MADE STEPS

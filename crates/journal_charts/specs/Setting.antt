@@ -48,7 +48,7 @@ nodes_with names actors =
     then nodes_from 1 names ++ record { node = record { 0 = rightmost }; name = codes "?" } ∷ []
     else nodes_from 1 names
 
--- WHAT A JOURNAL IS LAID OUT ON, for this view: the nodes and links of these names, and the actors of
+-- WHAT A JOURNAL IS LAID OUT ON that comes without a script, for this view: the nodes and links of these names, and the actors of
 -- these steps
 abbrev pub setting_of : Names → List Step → View → Setting
 setting_of names S view = record {

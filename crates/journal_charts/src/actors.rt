@@ -6,10 +6,11 @@ ghost use Rattle.journal.specs.History.{is_by};
 ghost use Rattle.journal_charts.specs.Actors.{has_actor, with_actor, with_maker, makers_of, is_open};
 ghost use Rattle.journal_charts.specs.Actors.{is_opening, or_step, first_open, node_opened};
 ghost use Rattle.journal_charts.specs.Actors.{node_opened_by, node_of_opening};
-ghost use Rattle.journal_charts.specs.Actors.{name_of_open, name_in, drawn_actor, actors_of};
+ghost use Rattle.journal_charts.specs.Actors.{name_of_open, name_in, numbered_name, drawn_actor};
+ghost use Rattle.journal_charts.specs.Actors.{actors_of};
 
 use crate::ends::RIGHTMOST;
-use chart_drawing::DrawnActor;
+use chart_drawing::{DrawnActor, put_bytes, put_number};
 use journal::{By, Effect, Head, Journal, Step};
 use linx_base::{Blob, NoMemory, NodeNo};
 use std::alloc::Global;
@@ -149,7 +150,17 @@ fn name_in(head: &Head) -> &[u8]
     }
 }
 
-/// An actor with the node and the name of its first endpoint.
+/// What an actor without a name is called.
+pub(crate) fn numbered_name(alloc: Global, actor: u32) -> Result<Blob, NoMemory>
+    ensures { IfOk result (λ name. name ≡ numbered_name actor) }
+{
+    let mut name = Vec::new(alloc);
+    put_bytes(&mut name, b"A")?;
+    put_number(&mut name, u64::from(actor))?;
+    Blob::shared(name)
+}
+
+/// An actor with its number, and the node and the name of its first endpoint.
 fn drawn_actor(alloc: Global, journal: &Journal, actor: u32) -> Result<DrawnActor, NoMemory>
     ensures { IfOk result (λ drawn. drawn ≡ drawn_actor journal.now.log.steps actor) }
 {
@@ -157,7 +168,8 @@ fn drawn_actor(alloc: Global, journal: &Journal, actor: u32) -> Result<DrawnActo
     Ok(DrawnActor {
         actor,
         node: node_of_opening(opening),
-        name: Blob::of(alloc, name_of_open(opening))?,
+        caption: numbered_name(alloc, actor)?,
+        subcaption: Blob::of(alloc, name_of_open(opening))?,
     })
 }
 

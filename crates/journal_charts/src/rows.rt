@@ -74,7 +74,7 @@ fn rows_with(alloc: Global, lines: &[&[u8]]) -> Result<Rows, NoMemory>
 }
 
 /// The words of the rows of a text.
-pub(crate) fn rows_in(alloc: Global, text: &[u8]) -> Result<Sequence<Blob>, NoMemory>
+pub fn rows_in(alloc: Global, text: &[u8]) -> Result<Sequence<Blob>, NoMemory>
     ensures { IfOk result (λ rows. rows ≡ rows_in text.now) }
 {
     let mut lines = split_at_byte(alloc, text, b'\n')?;

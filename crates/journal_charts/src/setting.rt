@@ -12,7 +12,7 @@ use linx_base::{Blob, LinkNo, Name, NoMemory, NodeNo, Sequence};
 use std::alloc::Global;
 
 /// The nodes of names, numbered from 1.
-fn nodes_named(alloc: Global, names: &[Name]) -> Result<Vec<DrawnNode>, NoMemory>
+pub(crate) fn nodes_named(alloc: Global, names: &[Name]) -> Result<Vec<DrawnNode>, NoMemory>
     ensures { IfOk result (λ nodes. nodes.items ≡ nodes_from 1 names.now) }
 {
     let mut nodes = Vec::new(alloc);
@@ -85,8 +85,8 @@ fn nodes_with(
     Ok(nodes)
 }
 
-/// What a journal is laid out on, for a view.
-pub(crate) fn setting_of(alloc: Global, journal: &Journal, view: View) -> Result<Setting, NoMemory>
+/// What a journal is laid out on that comes without a script, for a view.
+pub fn setting_of(alloc: Global, journal: &Journal, view: View) -> Result<Setting, NoMemory>
     ensures { IfOk result (λ setting.
         setting ≡ setting_of journal.now.log.names journal.now.log.steps view) }
 {

@@ -86,7 +86,12 @@ steps_in range = record { first = range.first; last = range.first + range.more }
 
 -- what of a chart is asked for
 abbrev pub view_of : Drawn → View
-view_of drawn = record { plain = drawn.plain; steps = option_map steps_in drawn.steps }
+view_of drawn = record {
+  plain = drawn.plain;
+  fold = false;
+  steps = option_map steps_in drawn.steps;
+  of = None;
+}
 
 -- a picture as it is, or the page round it
 abbrev pub paged : Bool → Result (List ℕ) DrawError → Result (List ℕ) DrawError

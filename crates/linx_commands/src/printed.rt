@@ -85,10 +85,12 @@ fn view_of(drawn: Drawn) -> View
 {
     View {
         plain: drawn.plain,
+        fold: false,
         steps: match drawn.steps {
             Some(range) => Some(steps_in(range)),
             None => None,
         },
+        of: None,
     }
 }
 

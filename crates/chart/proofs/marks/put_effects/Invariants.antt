@@ -7,4 +7,4 @@ use Rattle.chart.proofs.marks.put_effects.Given as goal
 -- the effects so far have their marks
 abbrev pub invariant-loop-index : goal.invariant-loop-index
 invariant-loop-index l = (S : List Step) → Opens S l.openers
-    → l.marks.items ≡ l.initial.marks.items ++ effect_marks S l.position 1 (take l.index l.effects)
+    → l.marks.items ≡ l.initial.marks.items ++ effect_marks S l.by l.position 1 (take l.index l.effects)

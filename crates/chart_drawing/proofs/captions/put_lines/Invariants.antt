@@ -1,9 +1,9 @@
-use Rattle.std.proofs.Common.{◌≡◌, ◌++◌, take, flat_map}
-use Rattle.chart_drawing.specs.Rows.{line_shapes}
+use Rattle.std.proofs.Common.{◌≡◌, ◌++◌, drop}
+use Rattle.chart_drawing.specs.Rows.{lines_of}
 use Rattle.chart_drawing.proofs.captions.put_lines.Given as goal
 
--- the lines of the rows so far are drawn
-abbrev pub invariant-loop-spot : goal.invariant-loop-spot
-invariant-loop-spot l =
-    l.out.items
-    ≡ l.initial.out.items ++ flat_map (line_shapes l.plain l.lines) (take l.spot-index l.spots)
+-- the lines so far, and those of the spots that are left, are those of all
+abbrev pub invariant-loop-index : goal.invariant-loop-index
+invariant-loop-index l =
+    l.out.items ++ lines_of l.view l.lines (drop l.index l.spots)
+    ≡ l.initial.out.items ++ lines_of l.view l.lines l.spots

@@ -6,6 +6,6 @@ use Rattle.chart_drawing.proofs.seen.actors_in.Goals as goal
 
 pub returns : goal.returns
 returns c =
-    let kept : c.retain.new.self.items ≡ filter (λ (x : DrawnActor). has_actor c.args.steps c.args.marks.now x.actor) c.into_vec-kept.result.items =
+    let kept : c.retain.new.self.items ≡ filter (λ (x : DrawnActor). has_actor c.args.view.now c.args.marks.now x.actor) c.into_vec-kept.result.items =
     filter_same _ _ _ (λ x b f' k. search rules) _ _ c.retain.ensures.filtered in
-    c.of.ensures ∙ kept ∙ ap (λ (l : List DrawnActor). actors_in c.args.steps c.args.marks.now l) c.into_vec-kept.ensures
+    c.of.ensures ∙ kept ∙ ap (λ (l : List DrawnActor). actors_in c.args.view.now c.args.marks.now l) c.into_vec-kept.ensures

@@ -6,6 +6,6 @@ use Rattle.chart_drawing.proofs.seen.links_in.Goals as goal
 
 pub returns : goal.returns
 returns c =
-    let kept : c.retain.new.self.items ≡ filter (λ (x : DrawnLink). has_link c.args.steps c.args.marks.now x.link.0) c.into_vec-kept.result.items =
+    let kept : c.retain.new.self.items ≡ filter (λ (x : DrawnLink). has_link c.args.view.now c.args.marks.now x.link.0) c.into_vec-kept.result.items =
     filter_same _ _ _ (λ x b f' k. search rules) _ _ c.retain.ensures.filtered in
-    c.of.ensures ∙ kept ∙ ap (λ (l : List DrawnLink). links_in c.args.steps c.args.marks.now l) c.into_vec-kept.ensures
+    c.of.ensures ∙ kept ∙ ap (λ (l : List DrawnLink). links_in c.args.view.now c.args.marks.now l) c.into_vec-kept.ensures

@@ -1,0 +1,9 @@
+pub mod Beside
+pub mod Captions
+pub mod Cells
+pub mod Grid
+pub mod Layout
+pub mod Maps
+pub mod Rare
+pub mod Strips
+pub mod Tallies
