@@ -41,7 +41,6 @@ use std::alloc::Global;
 use std::marker::Model;
 
 /// The nodes of a run, the standings of its actors, its links, and its journal.
-#[derive(Drop)]
 pub struct Fabric {
     pub(crate) alloc: Global,
     pub(crate) actors: Vec<NodeNo>,
@@ -54,6 +53,24 @@ pub struct Fabric {
     pub(crate) lines: Vec<Line>,
     /// The place of the actor that was the first that hadn't ended, when one ended last.
     pub(crate) front: u32,
+}
+
+// By hand, so that a crate above that lets a fabric go makes one call, and doesn't prove how all that
+// is in it goes.
+impl Drop for Fabric {
+    fn drop(self) {
+        let Fabric {
+            alloc: _,
+            actors: _,
+            journal: _,
+            trunks: _,
+            kernels: _,
+            booted: _,
+            standings: _,
+            lines: _,
+            front: _,
+        } = self;
+    }
 }
 
 impl Model for Fabric {
@@ -204,7 +221,18 @@ impl Fabric {
             && no_link_stirs self.shape self.log.steps (trunks_of self.trunks)) ≡ true
             → IsOver self.shape self.log.steps }
     {
-        self.journal.into_journal()
+        let Fabric {
+            alloc: _,
+            actors: _,
+            journal,
+            trunks: _,
+            kernels: _,
+            booted: _,
+            standings: _,
+            lines: _,
+            front: _,
+        } = self;
+        journal.into_journal()
     }
 
     /// Makes the step of an event, or none where the actor waits already, and answers. Where the

@@ -20,10 +20,16 @@ use std::marker::Model;
 use turn_lock::Story;
 
 /// A fabric that tells who made its steps, and why its run stops, once a maker noted that.
-#[derive(Drop)]
 pub struct SharedFabric {
     fabric: Fabric,
     stop: Option<StopCause>,
+}
+
+// By hand, so that a crate above that lets a lock or a pass go makes one call here.
+impl Drop for SharedFabric {
+    fn drop(self) {
+        let SharedFabric { fabric: _, stop: _ } = self;
+    }
 }
 
 impl Model for SharedFabric {
@@ -118,7 +124,8 @@ impl SharedFabric {
     pub fn into_fabric(self) -> Fabric
         ensures { result ≡ self.run }
     {
-        self.fabric
+        let SharedFabric { fabric, stop: _ } = self;
+        fabric
     }
 
     /// Notes why the run stops. The first cause stays.
