@@ -2,11 +2,12 @@
 """Runs the built program with a thread for each actor and each link: each worked script many times,
 and random scripts once each.
 
-The worked scripts are those of `examples/` and those that stand in worked_cases, whole_cases and thread_cases.
+The worked scripts are those of `examples/` and those of the rows of rows_program and of thread_cases.
 The makers of the steps in a run's journal are the order in which they took their turns. In this
 order bench/model takes the same turns: all must be over behind the last of them, and its text
 must be the run's, byte by byte. A run may say that its journal is full only where the model's is in
-the fixed order. Each run must end within ten seconds. Prints how many runs of how many scripts were
+the fixed order. `check` must find each text legal, and `replay` that it is that of a run of its
+script. Each run must end within ten seconds. Prints how many runs of how many scripts were
 as they should be, in how many ways they ended, and the first that was wrong.
 
     bench/try threads [RUNS [SEEDS [PROGRAM]]]       1,000 runs and 2,000 seeds if unsaid
@@ -24,19 +25,32 @@ import random_script
 
 TOP = pathlib.Path(__file__).resolve().parent.parent
 SECONDS = 10
+INPUT = re.compile(r"^input\n((?:  .*\n)+)", re.MULTILINE)
 LITERAL = re.compile(r'"(node (?:[^"\\]|\\.)*)"', re.DOTALL)
+
+
+def scripts_of_tests():
+    """The texts in the tests of threads that begin as scripts do."""
+    for file in sorted((TOP / "crates/thread_cases/src").glob("*.rt")):
+        for literal in LITERAL.findall(file.read_text()):
+            script = re.sub(r"\\\n\s*", "", literal).replace("\\n", "\n")
+            yield file.stem, re.sub(r"(?m)^ +", "", script).rstrip("\n") + "\n"
+
+
+def scripts_of_rows():
+    """What the rows of rows_program have on standard input, but for what is spelled there."""
+    for file in sorted((TOP / "crates/rows_program/data").glob("*.rows")):
+        for block in INPUT.findall(file.read_text()):
+            if not set(block) & set("{\\*"):
+                yield file.stem, block.replace("\n  ", "\n")[2:]
 
 
 def worked_scripts():
     """The good scripts of the examples and of the tests, each once."""
     scripts = {file.read_text(): file.stem for file in sorted((TOP / "examples").glob("*.linx"))}
-    for crate in "worked_cases", "whole_cases", "thread_cases":
-        for file in sorted((TOP / "crates" / crate / "src").glob("*.rt")):
-            for literal in LITERAL.findall(file.read_text()):
-                script = re.sub(r"\\\n\s*", "", literal).replace("\\n", "\n")
-                script = re.sub(r"(?m)^ +", "", script).rstrip("\n") + "\n"
-                if judge.is_script(script.encode()):
-                    scripts.setdefault(script, f"{crate} {file.stem}: {script[:60]!r}")
+    for name, script in [*scripts_of_rows(), *scripts_of_tests()]:
+        if judge.is_script(script.encode()):
+            scripts.setdefault(script, f"{name}: {script[:60]!r}")
     return [(name, script) for script, name in scripts.items()]
 
 
@@ -47,7 +61,8 @@ def try_script(job):
     for _ in range(runs):
         end = judge.ended([program, "run"], script.encode(), SECONDS)
         if end not in ends:
-            ends[end] = judge.wrong_in_threads(script.encode(), end)
+            ends[end] = judge.wrong_in_threads(script.encode(), end) or (
+                judge.wrong_when_judged(program, script.encode(), end, SECONDS))
         right += ends[end] is None
         wrong = wrong or ends[end] and f"{name}: {ends[end]}"
     return runs, right, len(ends), wrong
