@@ -1,9 +1,4 @@
--- Worked and refused runs.
+-- Worked runs.
 pub mod Playing
-pub mod Reconnecting
-pub mod RefusedOverLinks
-pub mod RefusedOnNodes
-pub mod OneLawBroken
 pub mod OverLinks
-pub mod OnNodes
 pub mod WithRecords

@@ -117,13 +117,6 @@ finds_none {shape} {P} {k} {filter} may receives still = record {
   ticks = tt;
 }
 
--- where there is no link, all are still
-pub no_links : {actors : List NodeNo} {P : List Step} → AllStill (on_node actors) P
-no_links {actors} {P} k of_shape =
-    let low : 0 < k.0 = of_shape.0 in
-    let high : k.0 ≤ 0 = of_shape.1 in
-    absurd (omega arith)
-
 -- a legal run goes on with a legal step
 infixl 1 ◌▸◌
 pub ◌▸◌ : {shape : Shape} {P : List Step} {s : Step} → IsLegal shape P → IsLegalStep shape P s
