@@ -124,7 +124,7 @@ row 'a search in vain' 7 $'linx_sim: found in none\n' "$script" "$work/text" pla
 row 'a search of full journals' 5 \
     $'linx_sim: journal full after step 513, by the limit of 67108864 bytes of signals\n' \
     "$work/large" "$work/text" plain find 1 9 down
-row 'a search for no words' 1 $'linx_sim: usage: linx_sim find A B [in FILE] [not] WORD ..\n' \
+row 'a search for no words' 1 $'linx_sim: usage: linx_sim find A B [progress] [in FILE] [not] WORD ..\n' \
     "$script" "$work/text" plain find 1 9 not
 printf '\1\1' > "$work/torn"
 plain run < "$script" > "$work/printed"

@@ -1,4 +1,3 @@
 mod CommandLine
-mod Numbers
 mod Shortness
 pub mod Serving

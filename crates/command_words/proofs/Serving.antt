@@ -10,8 +10,9 @@ use Rattle.command_words.specs.Requests.{asked_alone, asked_with, asked_with_fil
 use Rattle.command_words.specs.Charts.{chart_by}
 use Rattle.command_words.specs.Files.{is_file_name, is_no_name}
 use Rattle.command_words.specs.Ranges.{ranged}
-use Rattle.command_words.specs.Requests.{asked_with_more, clients_in, clients_spelled, request_by}
-use Rattle.command_words.specs.Requests.{searched, seeded}
+use Rattle.command_words.specs.Requests.{asked_with_more, clients_in, clients_spelled, is_progress}
+use Rattle.command_words.specs.Requests.{report_behind, report_over, reported, reported_of}
+use Rattle.command_words.specs.Requests.{request_by, searched, seeded}
 use Rattle.command_words.specs.Words.{called, is_help_flag}
 use Rattle.command_words.specs.declared.request.Asked.{Asked}
 use Rattle.command_words.specs.declared.request.Request.TheVariants.{Show, Play, Work, Serve}
@@ -125,15 +126,42 @@ none_alone None n is = cc
 none_alone (Some Run) n is = cc
 none_alone _ n is = cc
 
-no_range : (o : Option Range) (n : ℕ)
-    → option_map (λ range. Work (works.Seeds range)) o ≡ Some (Serve n) → ⊥
-no_range None n is = cc
-no_range (Some range) n is = cc
+no_range : (progress : Bool) (o : Option Range) (n : ℕ)
+    → option_map (λ range. report_over progress range) o ≡ Some (Serve n) → ⊥
+no_range progress None n is = cc
+no_range progress (Some range) n is = cc
+
+no_ranged_file : (progress : Bool) (o : Option Range) (named : Bool) (n : ℕ)
+    → option_and_then (λ request. if named then Some request else None)
+    (option_map (λ range. report_over progress range) o) ≡ Some (Serve n) → ⊥
+no_ranged_file progress None named n is = cc
+no_ranged_file progress (Some range) true n is = cc
+no_ranged_file progress (Some range) false n is = cc
+
+no_report_of_one : (told : Bool) (from to file : List ℕ) (n : ℕ)
+    → (if told then reported true from to else reported_of false from to file) ≡ Some (Serve n)
+    → ⊥
+no_report_of_one true from to file n is = no_range true (ranged from to) n is
+no_report_of_one false from to file n is =
+    no_ranged_file false (ranged from to) (is_file_name file) n is
+
+no_report_of_two : (told : Bool) (from to file : List ℕ) (n : ℕ)
+    → (if told then reported_of true from to file else None) ≡ Some (Serve n) → ⊥
+no_report_of_two true from to file n is =
+    no_ranged_file true (ranged from to) (is_file_name file) n is
+no_report_of_two false from to file n is = cc
+
+no_report : (from to : List ℕ) (behind : List (List ℕ)) (n : ℕ)
+    → report_behind from to behind ≡ Some (Serve n) → ⊥
+no_report from to [] n is = no_range false (ranged from to) n is
+no_report from to (word ∷ []) n is = no_report_of_one (is_progress word) from to word n is
+no_report from to (word ∷ file ∷ []) n is = no_report_of_two (is_progress word) from to file n is
+no_report from to (word ∷ file ∷ more ∷ rest) n is = cc
 
 none_with_file : (word : Option Word) (argument file : List ℕ) (n : ℕ)
     → option_and_then (λ w. asked_with_file w argument file) word ≡ Some (Serve n) → ⊥
 none_with_file (Some Seed) argument file n is = no_file (seeded argument) (is_file_name file) n is
-none_with_file (Some Seeds) argument file n is = no_range (ranged argument file) n is
+none_with_file (Some Seeds) argument file n is = no_range false (ranged argument file) n is
 none_with_file (Some Chart) argument file n is = no_chart (chart_by (argument ∷ file ∷ [])) n is
 none_with_file _ argument file n is = cc
 
@@ -141,13 +169,6 @@ no_search : (o : Option Search) (n : ℕ)
     → option_map (λ s. Work (works.Find s)) o ≡ Some (Serve n) → ⊥
 no_search None n is = cc
 no_search (Some s) n is = cc
-
-no_ranged_file : (o : Option Range) (named : Bool) (n : ℕ)
-    → option_and_then (λ request. if named then Some request else None)
-    (option_map (λ range. Work (works.Seeds range)) o) ≡ Some (Serve n) → ⊥
-no_ranged_file None named n is = cc
-no_ranged_file (Some range) true n is = cc
-no_ranged_file (Some range) false n is = cc
 
 few_kept : (refused : Bool) (number : List ℕ) (n : ℕ)
     → (if refused then None else option_map (λ k. Serve k) (clients_spelled number))
@@ -157,16 +178,17 @@ few_kept false number n is =
     few_spelled (nat_lt 2 (length number)) (number_spelled number) n
     (mapped (clients_spelled number) n is)
 
-few_with_more : (word : Option Word) (from to : List ℕ) (behind : List (List ℕ)) (n : ℕ)
-    → option_and_then (λ w. asked_with_more w from to behind) word ≡ Some (Serve n) → AreFew n
-few_with_more (Some Find) from to behind n is = absurd (no_search (searched from to behind) n is)
-few_with_more (Some Seeds) from to (file ∷ []) n is =
-    absurd (no_ranged_file (ranged from to) (is_file_name file) n is)
-few_with_more (Some Gateway) from to (file ∷ []) n is =
-    few_kept (not (bytes_eq to (codes "--journal")) || is_no_name file) from n is
-few_with_more (Some Chart) from to behind n is =
-    absurd (no_chart (chart_by (from ∷ to ∷ behind)) n is)
-few_with_more _ from to behind n is = absurd cc
+few_with_more : (word : Option Word) (from to next : List ℕ) (rest : List (List ℕ)) (n : ℕ)
+    → option_and_then (λ w. asked_with_more w (from ∷ to ∷ next ∷ rest)) word ≡ Some (Serve n)
+    → AreFew n
+few_with_more (Some Find) from to next rest n is =
+    absurd (no_search (searched from to (next ∷ rest)) n is)
+few_with_more (Some Seeds) from to next rest n is = absurd (no_report from to (next ∷ rest) n is)
+few_with_more (Some Gateway) from to next [] n is =
+    few_kept (not (bytes_eq to (codes "--journal")) || is_no_name next) from n is
+few_with_more (Some Chart) from to next rest n is =
+    absurd (no_chart (chart_by (from ∷ to ∷ next ∷ rest)) n is)
+few_with_more _ from to next rest n is = absurd cc
 
 -- a gateway that words ask for has 1 to 16 clients
 pub few_clients : (texts : List (List ℕ)) (n : ℕ) → request_by texts ≡ Some (Serve n) → AreFew n
@@ -176,4 +198,4 @@ few_clients (word ∷ argument ∷ []) n is = few_called (called word) argument 
 few_clients (word ∷ argument ∷ file ∷ []) n is =
     absurd (none_with_file (called word) argument file n is)
 few_clients (word ∷ from ∷ to ∷ next ∷ rest) n is =
-    few_with_more (called word) from to (next ∷ rest) n is
+    few_with_more (called word) from to next rest n is

@@ -18,7 +18,7 @@ page_head =
 -- what stands below the words in the help
 unfoldable pub page_foot : List ℕ
 page_foot =
-    codes "\nFILE is a script, under order and chart a printed text, under replay and check\nboth; without it, or where it is -, standard input is read.\n`linx_sim help WORD` says more of a word.\n\nexit status:\n  0  done\n  1  the words ask for nothing\n  2  the bytes are no script\n  3  the script can't be read\n  4  the text can't be written\n  5  the journal is full before the run is over\n  6  memory was refused\n  7  what is sought isn't found, or the text is no run's, or no legal run's\n  8  the bytes are no printed text, or one that is too large\n  9  a stream ended within a frame or a request\n  11 the bytes of a stream are no frame or request, or break the rules\n\nThe manual is docs/use/linx_sim.1, or `man linx_sim` once it is installed.\n"
+    codes "\nFILE is a script, under order a printed text, under replay and check both, under\nchart a text or both; without it, or where it is -, standard input is read.\n`linx_sim help WORD` says more of a word.\n\nexit status:\n  0  done\n  1  the words ask for nothing\n  2  the bytes are no script\n  3  the script can't be read\n  4  the text can't be written\n  5  the journal is full before the run is over\n  6  memory was refused\n  7  what is sought isn't found, or the text is no run's, or no legal run's\n  8  the bytes are no printed text, or one that is too large\n  9  a stream ended within a frame or a request\n  11 the bytes of a stream are no frame or request, or break the rules\n\nThe manual is docs/use/linx_sim.1, or `man linx_sim` once it is installed.\n"
 
 -- the page of all words: what the program is, the lines of each word, and what stands below
 unfoldable pub help_page : List ℕ

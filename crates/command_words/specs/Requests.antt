@@ -7,7 +7,7 @@ use Rattle.std.specs.Str.{bytes_eq}
 use Rattle.line_search.specs.declared.sought.Sought.{Sought}
 use Rattle.line_search.specs.declared.sought.Sought.TheVariants.{Line, NoLine}
 use Rattle.script_words.specs.Numbers.{number_spelled}
-use Rattle.command_words.specs.Charts.{chart_by, file_behind, whole_chart}
+use Rattle.command_words.specs.Charts.{chart_by, whole_chart}
 use Rattle.command_words.specs.Files.{is_file_name, is_no_name}
 use Rattle.command_words.specs.Ranges.{ranged}
 use Rattle.command_words.specs.Words.{called, is_help_flag}
@@ -19,6 +19,8 @@ use Rattle.command_words.specs.declared.request.TurnOrder.TheVariants as orders
 use Rattle.command_words.specs.declared.request.Request.TheVariants.{Show, Play, Work, Echo, Serve}
 use Rattle.command_words.specs.declared.range.Range.{Range}
 use Rattle.command_words.specs.declared.search.Search.{Search}
+use Rattle.command_words.specs.declared.work.Report.{Report}
+use Rattle.command_words.specs.declared.work.Work.{Work as Works}
 use Rattle.command_words.specs.declared.work.Work.TheVariants as works
 use Rattle.command_words.specs.declared.word.Word.{Word}
 use Rattle.command_words.specs.declared.word.Word.TheVariants.{Run, Serial, Seed, Find, Seeds, Order}
@@ -85,15 +87,38 @@ abbrev pub asked_with : Word → List ℕ → Option Request
 asked_with word argument =
     if is_help_flag argument then Some (Show (pages.Of word)) else asked_with_plain word argument
 
--- the request for a report of the seeds of a range, if the words spell one
-abbrev pub reported : List ℕ → List ℕ → Option Request
-reported from to = option_map (λ range. Work (works.Seeds range)) (ranged from to)
+-- the text asks for the progress of many runs
+abbrev pub is_progress : List ℕ → Bool
+is_progress text = bytes_eq text (codes "progress")
+
+-- the request for a report of a range, with or without its progress
+abbrev pub report_over : Bool → Range → Request
+report_over progress range =
+    Work (works.Seeds (record { range = range; progress = progress }))
+
+-- that of the range that two texts spell
+abbrev pub reported : Bool → List ℕ → List ℕ → Option Request
+reported progress from to = option_map (λ range. report_over progress range) (ranged from to)
+
+-- the same of a file
+abbrev pub reported_of : Bool → List ℕ → List ℕ → List ℕ → Option Request
+reported_of progress from to file =
+    option_and_then (λ request. of_file request file) (reported progress from to)
+
+-- THE REPORT of the range that two texts spell, by those behind them: `progress`, and a file
+abbrev pub report_behind : List ℕ → List ℕ → List (List ℕ) → Option Request
+report_behind from to [] = reported false from to
+report_behind from to (word ∷ []) =
+    if is_progress word then reported true from to else reported_of false from to word
+report_behind from to (word ∷ file ∷ []) =
+    if is_progress word then reported_of true from to file else None
+report_behind from to _ = None
 
 -- what a word, an argument and a file ask for, or a word and two arguments
 abbrev pub asked_with_file : Word → List ℕ → List ℕ → Option Request
 asked_with_file Seed argument file =
     option_and_then (λ asked. of_file (Play asked) file) (seeded argument)
-asked_with_file Seeds argument file = reported argument file
+asked_with_file Seeds argument file = reported false argument file
 asked_with_file Chart argument file = charts (argument ∷ file ∷ [])
 asked_with_file _ argument file = None
 
@@ -125,8 +150,8 @@ with_file search [] = None
 with_file search (file ∷ rest) =
     if is_file_name file then sought_by (record search { in_file = true }) rest else None
 
--- a search by the words behind its range: in the script of a file behind `in`, or in that of
--- standard input
+-- a search by the words behind its range and `progress`: in the script of a file behind `in`, or in
+-- that of standard input
 abbrev pub search_behind : Search → List (List ℕ) → Option Search
 search_behind search [] = sought_by search []
 search_behind search (first ∷ rest) =
@@ -134,11 +159,20 @@ search_behind search (first ∷ rest) =
     then with_file search rest
     else sought_by search (first ∷ rest)
 
+-- a search by the words behind its range, of which `progress` may be the first
+abbrev pub search_told : Search → List (List ℕ) → Option Search
+search_told search [] = search_behind search []
+search_told search (first ∷ rest) =
+    if is_progress first
+    then search_behind (record search { progress = true }) rest
+    else search_behind search (first ∷ rest)
+
 -- a search for a line over a range, by the words behind it
 abbrev pub search_over : Range → List (List ℕ) → Option Search
-search_over range behind = search_behind (record {
+search_over range behind = search_told (record {
   first = range.first;
   more = range.more;
+  progress = false;
   in_file = false;
   sought = Line;
 }) behind
@@ -147,43 +181,78 @@ search_over range behind = search_behind (record {
 abbrev pub searched : List ℕ → List ℕ → List (List ℕ) → Option Search
 searched from to behind = option_and_then (λ range. search_over range behind) (ranged from to)
 
--- what a word and further texts ask for, of which the first two are arguments
-abbrev pub asked_with_more : Word → List ℕ → List ℕ → List (List ℕ) → Option Request
-asked_with_more Find from to behind =
+-- what the texts behind `find` ask for
+abbrev pub find_by : List (List ℕ) → Option Request
+find_by (from ∷ to ∷ behind) =
     option_map (λ search. Work (works.Find search)) (searched from to behind)
-asked_with_more Seeds from to (file ∷ []) =
-    option_and_then (λ request. of_file request file) (reported from to)
-asked_with_more Gateway from to (file ∷ []) = kept from to file
-asked_with_more Chart from to behind = charts (from ∷ to ∷ behind)
-asked_with_more _ from to behind = None
+find_by _ = None
+
+-- what the texts behind `seeds` ask for
+abbrev pub seeds_by : List (List ℕ) → Option Request
+seeds_by (from ∷ to ∷ behind) = report_behind from to behind
+seeds_by _ = None
+
+-- what the texts behind `gateway` ask for, which keeps its journal
+abbrev pub gateway_by : List (List ℕ) → Option Request
+gateway_by (number ∷ flag ∷ file ∷ []) = kept number flag file
+gateway_by _ = None
+
+-- what a word asks for with three texts behind it, or more
+abbrev pub asked_with_more : Word → List (List ℕ) → Option Request
+asked_with_more Find texts = find_by texts
+asked_with_more Seeds texts = seeds_by texts
+asked_with_more Gateway texts = gateway_by texts
+asked_with_more Chart texts = charts texts
+asked_with_more _ texts = None
+
+-- what a word asks for with the texts behind it
+abbrev pub asked_behind : Word → List (List ℕ) → Option Request
+asked_behind word [] = asked_alone word
+asked_behind word (argument ∷ []) = asked_with word argument
+asked_behind word (argument ∷ file ∷ []) = asked_with_file word argument file
+asked_behind word texts = asked_with_more word texts
 
 -- what these texts ask for: nothing where they are those of no command
 abbrev pub request_by : List (List ℕ) → Option Request
-request_by (word ∷ []) = option_and_then (λ w. asked_alone w) (called word)
-request_by (word ∷ argument ∷ []) = option_and_then (λ w. asked_with w argument) (called word)
-request_by (word ∷ argument ∷ file ∷ []) =
-    option_and_then (λ w. asked_with_file w argument file) (called word)
-request_by (word ∷ from ∷ to ∷ next ∷ rest) =
-    option_and_then (λ w. asked_with_more w from to (next ∷ rest)) (called word)
 request_by [] = None
+request_by (word ∷ texts) = option_and_then (λ w. asked_behind w texts) (called word)
 
 -- what the words of a command line ask for, if they ask for anything
 abbrev pub request_of : {Z : Type 0} → List (String Z) → Option Request
 request_of words = request_by (map string_bytes words)
 
+-- a line says each second how many runs a work made
+abbrev pub tells_progress : Works → Bool
+tells_progress (works.Find search) = search.progress
+tells_progress (works.Seeds report) = report.progress
+tells_progress _ = false
+
+-- the place behind `progress`, where it stands at this one
+abbrev pub behind_progress : Bool → ℕ → ℕ
+behind_progress true place = place + 1
+behind_progress false place = place
+
+-- the place, from 0, of the file among the texts of a search: behind its `in`
+abbrev pub search_file_place : Search → Option ℕ
+search_file_place search =
+    if search.in_file then Some (behind_progress search.progress 4) else None
+
+-- the place of the file among those of a report: behind its range and `progress`
+abbrev pub report_file_place : Report → ℕ
+report_file_place report = behind_progress report.progress 3
+
 -- the place, from 0, of the file among the texts of what reads one: behind the word, behind the
--- number of `seed`, behind the range of `seeds`, behind the options of a chart, or behind the `in` of
--- a search
+-- number of `seed`, or where a search, a report or a chart has it
 abbrev pub file_place : Option Request → Option ℕ
 file_place (Some (Play asks.Run)) = Some 1
 file_place (Some (Play (asks.InOrder orders.Fixed))) = Some 1
 file_place (Some (Play (asks.InOrder (orders.Seed n)))) = Some 2
-file_place (Some (Work (works.Find search))) = if search.in_file then Some 4 else None
-file_place (Some (Work (works.Seeds range))) = Some 3
+file_place (Some (Work (works.Find search))) = search_file_place search
+file_place (Some (Work (works.Seeds report))) = Some (report_file_place report)
 file_place (Some (Work works.Order)) = Some 1
 file_place (Some (Work works.Replay)) = Some 1
 file_place (Some (Work works.Check)) = Some 1
-file_place (Some (Work (works.Chart drawn))) = file_behind drawn
+file_place (Some (Work (works.Chart drawn))) = drawn.file
 file_place _ = None
 
 -- the file that a text names, which may be missing: none by `-`
@@ -222,10 +291,11 @@ abbrev pub wanted_place_by : Sought → ℕ → ℕ
 wanted_place_by Line place = place
 wanted_place_by NoLine place = place + 1
 
--- the place, from 0, of the first text that is wanted of a line: behind the word, the range, the file
--- and `not`
+-- the place, from 0, of the first text that is wanted of a line: behind the word, the range,
+-- `progress`, the file and `not`
 abbrev pub wanted_place : Search → ℕ
-wanted_place search = wanted_place_by search.sought (if search.in_file then 5 else 3)
+wanted_place search = wanted_place_by search.sought
+    (behind_progress search.progress (if search.in_file then 5 else 3))
 
 -- the texts that are wanted of a line, among those of a search
 abbrev pub wanted_of : Search → List (List ℕ) → List (List ℕ)

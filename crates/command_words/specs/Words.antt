@@ -43,18 +43,18 @@ said_of Seed = record {
 }
 said_of Find = record {
   name = codes "find";
-  usage = codes "find A B [in FILE] [not] WORD ..";
+  usage = codes "find A B [progress] [in FILE] [not] WORD ..";
   line = codes "find the first number from A to B whose run has a line of these words";
   paragraph =
-      codes "Plays a script as seed does, in the orders of the numbers A, A + 1, .. B, a million at\nmost, and writes the first one whose text has a line that begins with these words, and\nthe line. There are one to eight words; _ stands for any. What a line begins with is\nwhat stands behind the number and the maker of a step, or the + of an effect. With not\nit writes the first one whose text has no such line. Where there is none it exits 7.\n";
+      codes "Plays a script as seed does, in the orders of the numbers A, A + 1, .. B, a million at\nmost, and writes the first one whose text has a line that begins with these words, and\nthe line. There are one to eight words; _ stands for any. What a line begins with is\nwhat stands behind the number and the maker of a step, or the + of an effect. With not\nit writes the first one whose text has no such line. Where there is none it exits 7.\nWith progress a line on standard error says each second how many runs were made.\n";
   example = codes "linx_sim find 1 1000 in examples/losses.linx notified _ _ _ dead";
 }
 said_of Seeds = record {
   name = codes "seeds";
-  usage = codes "seeds A B [FILE]";
+  usage = codes "seeds A B [progress] [FILE]";
   line = codes "report what comes of a script in the orders of the numbers A to B";
   paragraph =
-      codes "Plays a script as seed does, in the orders of the numbers A, A + 1, .. B, a million at\nmost, and writes which outcomes came, how often and for which number first; and in how\nmany runs a refusal, a none, a dead, closed or lost, or a down came.\n";
+      codes "Plays a script as seed does, in the orders of the numbers A, A + 1, .. B, a million at\nmost, and writes which outcomes came, how often and for which number first; and in how\nmany runs a refusal, a none, a dead, closed or lost, or a down came. With progress a line\non standard error says each second how many runs were made.\n";
   example = codes "linx_sim seeds 1 1000 examples/losses.linx";
 }
 said_of Order = record {
@@ -85,10 +85,10 @@ said_of Check = record {
 }
 said_of Chart = record {
   name = codes "chart";
-  usage = codes "chart [page] [plain] [steps A B] [FILE]";
-  line = codes "draw a printed run as a picture, or as a page with one";
+  usage = codes "chart [map | OPTION ..] [FILE]";
+  line = codes "draw a printed run as a picture, a page with one, or a map";
   paragraph =
-      codes "Reads the text of a run from FILE, or from standard input, and writes a picture of it\nas SVG: a lane for each endpoint and link, a row for each step and what it did, and an\narrow from each send to its arrival. With page it writes a page for a browser, where a\nclick lights what belongs together; with plain the picture without the lines of the\njournal; with steps A B only the rows of these steps. It draws 6,000 rows at most.\n";
+      codes "Reads the text of a run from FILE, or from standard input, and writes a picture of it\nas SVG: a lane for each endpoint and link, a row for each step and what it did, and an\narrow from each send to its arrival. It draws 6,000 rows at most. With map it writes a\nmap of a long run: at most 240 rows, each of many steps. Else there may be options, in\nany order: with page it writes a page for a browser, where a click lights what belongs\ntogether; with plain the picture without the lines of the journal; with fold a run of\nsteps of links that did nothing is one row; with steps A B it has only the rows of these\nsteps; with of A1,P2 only those of actor 1 and link 2, and of what came to them or was\nsent to them. The text may stand behind its script and a line `text`, as check takes it:\nthen nodes, links and actors have the names and places that the script gives them. A\nFILE whose name is that of an option is written with a path, as ./page.\n";
   example = codes "linx_sim serial examples/losses.linx | linx_sim chart > losses.svg";
 }
 said_of Gen = record {

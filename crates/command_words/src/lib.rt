@@ -3,12 +3,12 @@
 //! is wrong with words that ask for nothing are read off it.
 #![tactic(auto)]
 
+mod charting;
 mod command_line;
 mod drawn;
 mod line;
 mod misuse;
 mod nearest;
-mod number;
 mod page;
 mod range;
 mod request;
@@ -16,7 +16,8 @@ mod search;
 mod word;
 mod work;
 
-pub use drawn::{Awaited, Charting, Drawn};
+pub use charting::{Awaited, Charting, Choice};
+pub use drawn::{Drawn, Kind};
 pub use line::Line;
 pub use misuse::Misuse;
 pub use page::Page;
@@ -24,4 +25,4 @@ pub use range::Range;
 pub use request::{Asked, Request, TurnOrder, file_named, journal_named};
 pub use search::Search;
 pub use word::{Said, WORDS, Word};
-pub use work::Work;
+pub use work::{Report, Work};

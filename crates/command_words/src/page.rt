@@ -33,8 +33,8 @@ fn foot() -> &'static str
     ensures { result.now ≡ page_foot }
 {
     "\n\
-    FILE is a script, under order and chart a printed text, under replay and check\n\
-    both; without it, or where it is -, standard input is read.\n\
+    FILE is a script, under order a printed text, under replay and check both, under\n\
+    chart a text or both; without it, or where it is -, standard input is read.\n\
     `linx_sim help WORD` says more of a word.\n\n\
     exit status:\n  \
     0  done\n  \

@@ -2,7 +2,7 @@
 ghost use Rattle.std.specs.Prelude.{◌≡◌};
 ghost use Rattle.command_words.specs.Ranges.{range_over, ranged};
 
-use crate::number::number;
+use maker_words::number;
 
 /// The most numbers of a range.
 const RANGE_MOST: u32 = 1_000_000;

@@ -1,18 +1,21 @@
 //! What the words ask for.
 ghost use Rattle.std.specs.Prelude.{◌≡◌, map, option_map, string_bytes};
-ghost use Rattle.command_words.specs.Requests.{asked_alone, asked_with, asked_with_file};
-ghost use Rattle.command_words.specs.Requests.{asked_with_more, clients_in, clients_spelled};
-ghost use Rattle.command_words.specs.Requests.{file_at, file_of, file_place, journal_of, kept};
 ghost use Rattle.command_words.specs.Files.{is_file_name, is_no_name};
-ghost use Rattle.command_words.specs.Requests.{of_file, reported, request_of, seeded};
+ghost use Rattle.command_words.specs.Requests.{asked_alone, asked_behind, asked_with};
+ghost use Rattle.command_words.specs.Requests.{asked_with_file, asked_with_more, clients_in};
+ghost use Rattle.command_words.specs.Requests.{clients_spelled, file_at, file_of, file_place};
+ghost use Rattle.command_words.specs.Requests.{find_by, gateway_by, journal_of, kept, of_file};
+ghost use Rattle.command_words.specs.Requests.{report_behind, reported, reported_of, request_of};
+ghost use Rattle.command_words.specs.Requests.{seeded, seeds_by};
 
-use crate::drawn::{Drawn, chart_of_more, chart_of_one, chart_of_two};
-use crate::number::number;
+use crate::charting::{chart_of, chart_of_one, chart_of_two};
+use crate::drawn::Drawn;
 use crate::page::Page;
 use crate::range::ranged;
-use crate::search::{Search, searched};
+use crate::search::searched;
 use crate::word::{Word, called, is_help_flag};
-use crate::work::Work;
+use crate::work::{Report, Work, is_progress};
+use maker_words::number;
 
 /// The most clients of a gateway, and the most digits that their number has.
 const CLIENTS_MOST: u32 = 16;
@@ -154,11 +157,32 @@ pub(crate) fn asked_with(word: Word, argument: &str) -> Option<Request>
     }
 }
 
-/// The report of a range.
-fn reported(from: &str, to: &str) -> Option<Request>
-    ensures { result ≡ reported from.now to.now }
+/// The report of a range, with or without its progress.
+fn reported(progress: bool, from: &str, to: &str) -> Option<Request>
+    ensures { result ≡ reported progress from.now to.now }
 {
-    Some(Request::Work(Work::Seeds(ranged(from, to)?)))
+    let range = ranged(from, to)?;
+    Some(Request::Work(Work::Seeds(Report { range, progress })))
+}
+
+/// The same of a file.
+fn reported_of(progress: bool, from: &str, to: &str, file: &str) -> Option<Request>
+    ensures { result ≡ reported_of progress from.now to.now file.now }
+{
+    of_file(reported(progress, from, to)?, file)
+}
+
+/// The report of a range, by the words behind it: `progress`, and a file.
+fn report_behind(from: &str, to: &str, behind: &[String]) -> Option<Request>
+    ensures { result ≡ report_behind from.now to.now (map string_bytes behind.now) }
+{
+    match behind {
+        [] => reported(false, from, to),
+        [word] if is_progress(word.as_str()) => reported(true, from, to),
+        [file] => reported_of(false, from, to, file.as_str()),
+        [word, file] if is_progress(word.as_str()) => reported_of(true, from, to, file.as_str()),
+        _ => None,
+    }
 }
 
 /// What a word, an argument and a file ask for, or a word and two arguments.
@@ -167,7 +191,7 @@ pub(crate) fn asked_with_file(word: Word, argument: &str, file: &str) -> Option<
 {
     match word {
         Word::Seed => of_file(Request::Play(seeded(argument)?), file),
-        Word::Seeds => reported(argument, file),
+        Word::Seeds => reported(false, argument, file),
         Word::Chart => Some(Request::Work(Work::Chart(chart_of_two(argument, file)?))),
         _ => None,
     }
@@ -183,16 +207,61 @@ fn kept(number: &str, flag: &str, file: &str) -> Option<Request>
     Some(Request::Serve(clients(number)?))
 }
 
-/// What a word and further ones ask for, of which the first two are arguments.
-fn asked_with_more(word: Word, from: &str, to: &str, behind: &[String]) -> Option<Request>
-    ensures { result ≡ asked_with_more word from.now to.now (map string_bytes behind.now) }
+/// What the words behind `find` ask for.
+fn find_by(words: &[String]) -> Option<Request>
+    ensures { result ≡ find_by (map string_bytes words.now) }
 {
-    match (word, behind) {
-        (Word::Find, _) => Some(Request::Work(Work::Find(searched(from, to, behind)?))),
-        (Word::Seeds, [file]) => of_file(reported(from, to)?, file.as_str()),
-        (Word::Gateway, [file]) => kept(from, to, file.as_str()),
-        (Word::Chart, _) => Some(Request::Work(Work::Chart(chart_of_more(from, to, behind)?))),
+    match words {
+        [from, to, behind @ ..] => {
+            let search = searched(from.as_str(), to.as_str(), behind)?;
+            Some(Request::Work(Work::Find(search)))
+        }
         _ => None,
+    }
+}
+
+/// What the words behind `seeds` ask for.
+fn seeds_by(words: &[String]) -> Option<Request>
+    ensures { result ≡ seeds_by (map string_bytes words.now) }
+{
+    match words {
+        [from, to, behind @ ..] => report_behind(from.as_str(), to.as_str(), behind),
+        _ => None,
+    }
+}
+
+/// What the words behind `gateway` ask for, which keeps its journal.
+fn gateway_by(words: &[String]) -> Option<Request>
+    ensures { result ≡ gateway_by (map string_bytes words.now) }
+{
+    match words {
+        [number, flag, file] => kept(number.as_str(), flag.as_str(), file.as_str()),
+        _ => None,
+    }
+}
+
+/// What a word asks for with three words behind it, or more.
+fn asked_with_more(word: Word, words: &[String]) -> Option<Request>
+    ensures { result ≡ asked_with_more word (map string_bytes words.now) }
+{
+    match word {
+        Word::Find => find_by(words),
+        Word::Seeds => seeds_by(words),
+        Word::Gateway => gateway_by(words),
+        Word::Chart => Some(Request::Work(Work::Chart(chart_of(words)?))),
+        _ => None,
+    }
+}
+
+/// What a word asks for with the words behind it.
+fn asked_behind(word: Word, words: &[String]) -> Option<Request>
+    ensures { result ≡ asked_behind word (map string_bytes words.now) }
+{
+    match words {
+        [] => asked_alone(word),
+        [argument] => asked_with(word, argument.as_str()),
+        [argument, file] => asked_with_file(word, argument.as_str(), file.as_str()),
+        [_, _, _, ..] => asked_with_more(word, words),
     }
 }
 
@@ -201,14 +270,7 @@ pub(crate) fn request_by(words: &[String]) -> Option<Request>
     ensures { result ≡ request_of words.now }
 {
     match words {
-        [word] => asked_alone(called(word.as_str())?),
-        [word, argument] => asked_with(called(word.as_str())?, argument.as_str()),
-        [word, argument, file] => {
-            asked_with_file(called(word.as_str())?, argument.as_str(), file.as_str())
-        }
-        [word, from, to, behind @ ..] => {
-            asked_with_more(called(word.as_str())?, from.as_str(), to.as_str(), behind)
-        }
+        [word, behind @ ..] => asked_behind(called(word.as_str())?, behind),
         [] => None,
     }
 }
@@ -220,9 +282,9 @@ fn file_place(request: Option<Request>) -> Option<usize>
     match request {
         Some(Request::Play(Asked::Run | Asked::InOrder(TurnOrder::Fixed))) => Some(1),
         Some(Request::Play(Asked::InOrder(TurnOrder::Seed(_)))) => Some(2),
-        Some(Request::Work(Work::Find(Search { in_file: true, .. }))) => Some(4),
-        Some(Request::Work(Work::Seeds(_))) => Some(3),
-        Some(Request::Work(Work::Chart(drawn))) => drawn.file_place(),
+        Some(Request::Work(Work::Find(search))) => search.file_place(),
+        Some(Request::Work(Work::Seeds(report))) => Some(report.file_place()),
+        Some(Request::Work(Work::Chart(drawn))) => drawn.file,
         Some(Request::Work(Work::Order | Work::Replay | Work::Check)) => Some(1),
         _ => None,
     }

@@ -1,10 +1,12 @@
 //! What a search is asked for.
 ghost use Rattle.std.specs.Prelude.{◌≡◌, map, string_bytes};
-ghost use Rattle.command_words.specs.Requests.{fitting, search_behind, searched, sought_by};
-ghost use Rattle.command_words.specs.Requests.{wanted_place, with_file, wanted_of};
+ghost use Rattle.command_words.specs.Requests.{fitting, search_behind, search_file_place};
+ghost use Rattle.command_words.specs.Requests.{search_told, searched, sought_by, wanted_of};
+ghost use Rattle.command_words.specs.Requests.{wanted_place, with_file};
 
 use crate::range::{Range, ranged};
 use crate::request::is_file_name;
+use crate::work::is_progress;
 use line_search::Sought;
 
 /// The most words that are wanted of a line.
@@ -15,6 +17,8 @@ const WANTED_MOST: usize = 8;
 pub struct Search {
     pub first: u32,
     pub more: u32,
+    /// Whether a line says each second how many runs were made.
+    pub progress: bool,
     /// Whether the words name the file of the script.
     pub in_file: bool,
     pub sought: Sought,
@@ -58,14 +62,27 @@ fn with_file(search: Search, behind: &[String]) -> Option<Search>
     }
 }
 
-/// A search by the words behind its range: in the script of a file behind `in`, or in that of
-/// standard input.
+/// A search by the words behind its range and `progress`: in the script of a file behind `in`, or in
+/// that of standard input.
 fn search_behind(search: Search, behind: &[String]) -> Option<Search>
     ensures { result ≡ search_behind search (map string_bytes behind.now) }
 {
     match behind {
         [first, behind @ ..] if first.as_str() == "in" => with_file(search, behind),
         _ => sought_by(search, behind),
+    }
+}
+
+/// A search by the words behind its range, of which `progress` may be the first.
+fn search_told(search: Search, behind: &[String]) -> Option<Search>
+    ensures { result ≡ search_told search (map string_bytes behind.now) }
+{
+    match behind {
+        [first, behind @ ..] if is_progress(first.as_str()) => {
+            let progress = true;
+            search_behind(Search { progress, ..search }, behind)
+        }
+        _ => search_behind(search, behind),
     }
 }
 
@@ -77,21 +94,34 @@ pub(crate) fn searched(from: &str, to: &str, behind: &[String]) -> Option<Search
     let search = Search {
         first,
         more,
+        progress: false,
         in_file: false,
         sought: Sought::Line,
     };
-    search_behind(search, behind)
+    search_told(search, behind)
 }
 
 impl Search {
+    /// The place, from 0, of the file among the words.
+    pub(crate) fn file_place(self) -> Option<usize>
+        ensures { result ≡ search_file_place self }
+    {
+        if self.in_file {
+            Some(4 + usize::from(self.progress))
+        } else {
+            None
+        }
+    }
+
     /// The place, from 0, of the first word that is wanted.
     fn wanted_place(self) -> usize
         ensures { result ≡ wanted_place self }
     {
         let behind_file = if self.in_file { 5 } else { 3 };
+        let behind_progress = behind_file + usize::from(self.progress);
         match self.sought {
-            Sought::Line => behind_file,
-            Sought::NoLine => behind_file + 1,
+            Sought::Line => behind_progress,
+            Sought::NoLine => behind_progress + 1,
         }
     }
 

@@ -102,22 +102,24 @@ impl Word {
             },
             Word::Find => Said {
                 name: "find",
-                usage: "find A B [in FILE] [not] WORD ..",
+                usage: "find A B [progress] [in FILE] [not] WORD ..",
                 line: "find the first number from A to B whose run has a line of these words",
                 paragraph: "Plays a script as seed does, in the orders of the numbers A, A + 1, .. B, a million at\n\
                     most, and writes the first one whose text has a line that begins with these words, and\n\
                     the line. There are one to eight words; _ stands for any. What a line begins with is\n\
                     what stands behind the number and the maker of a step, or the + of an effect. With not\n\
-                    it writes the first one whose text has no such line. Where there is none it exits 7.\n",
+                    it writes the first one whose text has no such line. Where there is none it exits 7.\n\
+                    With progress a line on standard error says each second how many runs were made.\n",
                 example: "linx_sim find 1 1000 in examples/losses.linx notified _ _ _ dead",
             },
             Word::Seeds => Said {
                 name: "seeds",
-                usage: "seeds A B [FILE]",
+                usage: "seeds A B [progress] [FILE]",
                 line: "report what comes of a script in the orders of the numbers A to B",
                 paragraph: "Plays a script as seed does, in the orders of the numbers A, A + 1, .. B, a million at\n\
                     most, and writes which outcomes came, how often and for which number first; and in how\n\
-                    many runs a refusal, a none, a dead, closed or lost, or a down came.\n",
+                    many runs a refusal, a none, a dead, closed or lost, or a down came. With progress a line\n\
+                    on standard error says each second how many runs were made.\n",
                 example: "linx_sim seeds 1 1000 examples/losses.linx",
             },
             Word::Order => Said {
@@ -152,13 +154,19 @@ impl Word {
             },
             Word::Chart => Said {
                 name: "chart",
-                usage: "chart [page] [plain] [steps A B] [FILE]",
-                line: "draw a printed run as a picture, or as a page with one",
+                usage: "chart [map | OPTION ..] [FILE]",
+                line: "draw a printed run as a picture, a page with one, or a map",
                 paragraph: "Reads the text of a run from FILE, or from standard input, and writes a picture of it\n\
                     as SVG: a lane for each endpoint and link, a row for each step and what it did, and an\n\
-                    arrow from each send to its arrival. With page it writes a page for a browser, where a\n\
-                    click lights what belongs together; with plain the picture without the lines of the\n\
-                    journal; with steps A B only the rows of these steps. It draws 6,000 rows at most.\n",
+                    arrow from each send to its arrival. It draws 6,000 rows at most. With map it writes a\n\
+                    map of a long run: at most 240 rows, each of many steps. Else there may be options, in\n\
+                    any order: with page it writes a page for a browser, where a click lights what belongs\n\
+                    together; with plain the picture without the lines of the journal; with fold a run of\n\
+                    steps of links that did nothing is one row; with steps A B it has only the rows of these\n\
+                    steps; with of A1,P2 only those of actor 1 and link 2, and of what came to them or was\n\
+                    sent to them. The text may stand behind its script and a line `text`, as check takes it:\n\
+                    then nodes, links and actors have the names and places that the script gives them. A\n\
+                    FILE whose name is that of an option is written with a path, as ./page.\n",
                 example: "linx_sim serial examples/losses.linx | linx_sim chart > losses.svg",
             },
             Word::Gen => Said {

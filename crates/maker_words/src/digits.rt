@@ -14,7 +14,7 @@ fn are_digits(word: &[u8]) -> bool
 
 /// The number that a word spells, as a word of a script spells one.
 #[tactic(auto, unfolding(script_words::specs::Numbers::number_spelled))]
-pub(crate) fn number(word: &str) -> Option<u32>
+pub fn number(word: &str) -> Option<u32>
     ensures { result ≡ number_spelled word.now }
 {
     if word.len() > DIGITS_MOST {

@@ -2,8 +2,8 @@ use Rattle.std.proofs.Common.{◌≡◌, ◌≤◌, true, length, arith}
 use Rattle.std.specs.Char.{is_ascii_digit}
 use Rattle.std.specs.List.{list_all}
 use Rattle.script_words.specs.Limits.{digit_limit}
-use Rattle.command_words.proofs.Numbers.{read_is_spelled}
-use Rattle.command_words.proofs.number.number.Goals as goal
+use Rattle.maker_words.proofs.Numbers.{read_is_spelled}
+use Rattle.maker_words.proofs.digits.number.Goals as goal
 
 pub returns : goal.returns
 returns c =
