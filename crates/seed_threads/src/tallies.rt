@@ -77,3 +77,24 @@ pub(crate) fn tally_in_pieces<R: Threads + Sync>(
     );
     both(front, behind)
 }
+
+/// The tally of a front of a range, joined with that of a wave behind it, which is made in so many
+/// pieces.
+pub(crate) fn with_wave<R: Threads + Sync>(
+    rt: &R,
+    alloc: Global,
+    bytes: &[u8],
+    actors: u32,
+    first: u32,
+    done: u32,
+    wave: u32,
+    pieces: u32,
+    front: Result<Tally, ScriptError>,
+) -> Result<Tally, ScriptError>
+    requires fits { first + (done + wave + 1) < 2 ^ 32 }
+    requires front { Tallies bytes.now actors first done front }
+    ensures { Tallies bytes.now actors first (done + wave + 1) result }
+{
+    let behind = tally_in_pieces(rt, alloc, bytes, actors, first + done + 1, wave, pieces);
+    both(front, behind)
+}

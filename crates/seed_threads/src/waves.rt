@@ -6,17 +6,17 @@ ghost use Rattle.seed_threads.specs.Answers.{Finds};
 
 use crate::pieces::find_in_pieces;
 use crate::processors::pieces;
+use crate::sizes::next_size;
 use line_search::Sought;
+use run_progress::Progress;
 use seed_runs::RunStop;
 use seed_search::Found;
 use std::alloc::Global;
 use std::thread::Threads;
 
-/// The most seeds of a piece: each wave has twice as many in each of its pieces as the one before.
-const PIECE_MOST: u32 = 4096;
-
-/// The search of a range in waves of so many pieces.
-fn find_in_waves<R: Threads + Sync>(
+/// The search of a range in waves of so many pieces. After each wave it is told how many of all runs
+/// were made.
+fn find_in_waves<R: Threads + Sync, P: Progress>(
     rt: &R,
     alloc: Global,
     bytes: &[u8],
@@ -24,11 +24,13 @@ fn find_in_waves<R: Threads + Sync>(
     more: u32,
     sought: Sought,
     wanted: &[String],
+    progress: &mut P,
 ) -> Result<Option<Found>, RunStop>
     requires { first + more < 2 ^ 32 }
     ensures { Finds bytes.now first more sought (map string_bytes wanted.now) result }
 {
     let pieces = pieces(rt);
+    let all = u64::from(more) + 1;
     let mut from = first;
     let mut left = more;
     let mut size: u32 = 1;
@@ -39,19 +41,20 @@ fn find_in_waves<R: Threads + Sync>(
             Ok(Some(found)) => return Ok(Some(found)),
             Err(stop) => return Err(stop),
         }
+        let is_told = progress.made(all - u64::from(left - wave), all);
         if wave == left {
             return Ok(None);
         }
         from += wave + 1;
         left -= wave + 1;
-        size = PIECE_MOST.min(size * 2);
+        size = next_size(size, is_told);
     }
 }
 
 /// THE FIRST SEED, of this one and so many behind it, whose run shows what is sought, and the line;
 /// `None` where no run does. It stops at the first run that isn't whole. Where the seeds go past
-/// 4,294,967,295 they are searched one after another.
-pub fn find<R: Threads + Sync>(
+/// 4,294,967,295 they are searched one after another, and no progress is told.
+pub fn find<R: Threads + Sync, P: Progress>(
     rt: &R,
     alloc: Global,
     bytes: &[u8],
@@ -59,6 +62,7 @@ pub fn find<R: Threads + Sync>(
     more: u32,
     sought: Sought,
     wanted: &[String],
+    progress: &mut P,
 ) -> Result<Option<Found>, RunStop>
     ensures answer { IfOk result (λ found. IsAnswer bytes.now first more sought
         (map string_bytes wanted.now) found) }
@@ -66,7 +70,7 @@ pub fn find<R: Threads + Sync>(
         (map string_bytes wanted.now) stop) }
 {
     match first.checked_add(more) {
-        Some(_) => find_in_waves(rt, alloc, bytes, first, more, sought, wanted),
+        Some(_) => find_in_waves(rt, alloc, bytes, first, more, sought, wanted, progress),
         None => seed_search::find(alloc, bytes, first, more, sought, wanted),
     }
 }
