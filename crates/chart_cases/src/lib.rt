@@ -1,5 +1,5 @@
-//! Cases of charts, maps, views and pictures. They stand apart from the layers below, so that those are
-//! proved once.
+//! Cases of charts, maps, views and pictures, and of the charts of texts. They stand apart from the
+//! layers below, so that those are proved once.
 #![tactic(auto)]
 
 #[cfg(test)]
@@ -8,5 +8,7 @@ mod charts;
 mod maps;
 #[cfg(test)]
 mod pictures;
+#[cfg(test)]
+mod texts;
 #[cfg(test)]
 mod windows;
