@@ -154,7 +154,8 @@ def wanted(script, text):
         return 0, b"", b"legal %d\n" % verdict.at
     if verdict.kind == "illegal":
         rule = laws.RULES[verdict.law]
-        return 7, said(f"step {verdict.at} breaks the law {verdict.law}: {rule}"), b""
+        here = f"; here the earliest is {verdict.earliest}" if verdict.earliest else ""
+        return 7, said(f"step {verdict.at} breaks the law {verdict.law}: {rule}{here}"), b""
     return 8, said(SAID[verdict.kind].format(verdict.at)), b""
 
 

@@ -57,11 +57,13 @@ def shape_of(script):
 
 
 class Verdict(NamedTuple):
-    """What is said of a text: a kind, the line or the step that it is about, and a law."""
+    """What is said of a text: a kind, the line or the step that it is about, a law, and where the
+    item stood that a receive was to take."""
 
     kind: str
     at: int
     law: str = ""
+    earliest: str = ""
 
 
 # Signals, and what is read of their data.
@@ -387,14 +389,20 @@ class Judged:
         kind = self.head[0]
         if kind == "detach":
             return self.head[2] == self.detached_as()
-        if kind not in ("take", "none", "waits"):
-            return True
-        item = self.history.first_selected(self.head[1], self.me)
         if kind == "take":
-            return item is not None and item.position == self.head[2]
+            return self.earliest() == self.head[2]
         if kind == "none":
-            return item is None and self.history.is_at_rest(self.shape, self.maker)
-        return item is None and self.history.waits.get(self.maker) is None
+            return not self.earliest() and self.history.is_at_rest(self.shape, self.maker)
+        if kind == "waits":
+            return not self.earliest() and self.history.waits.get(self.maker) is None
+        return True
+
+    def earliest(self):
+        """The position of the earliest item that a receive selects; nothing where there is none."""
+        if self.head[0] not in ("take", "none", "waits"):
+            return ""
+        item = self.history.first_selected(self.head[1], self.me)
+        return item.position if item else ""
 
     def detached_as(self):
         """The answer to a detach."""
@@ -442,7 +450,8 @@ def first_fault(shape, steps):
         judged = Judged(shape, history, step)
         for law in RULES:
             if not getattr(judged, law)():
-                return Verdict("illegal", history.count + 1, law)
+                wanted = judged.earliest() if law == "receives" else ""
+                return Verdict("illegal", history.count + 1, law, wanted)
         history.add(step)
     return None
 

@@ -36,6 +36,7 @@ fn is_of_no_link(alloc: Global, head: Head) -> Result<(), Fail> {
     let wanted = Fault {
         step: 1,
         law: Law::Links,
+        earliest: None,
     };
     if fault_of(alloc, head)? == Some(wanted) {
         Ok(())

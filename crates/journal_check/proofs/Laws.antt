@@ -13,6 +13,7 @@ use Rattle.journal.specs.declared.effect.Step.{Step}
 use Rattle.journal.specs.declared.head.Head.{Head}
 use Rattle.journal.specs.Effects.{send_answer}
 use Rattle.journal.specs.History.{endpoint_by, endpoint_of}
+use Rattle.journal.specs.Rest.{queue_of}
 use Rattle.journal.specs.Laws.{KeepsEndpoints, KeepsReceives, KeepsSends, effects_by, may_make}
 use Rattle.journal.specs.Shapes.{node_by}
 use Rattle.journal.specs.declared.head.Head.TheVariants as heads
@@ -27,11 +28,12 @@ use Rattle.link_check.proofs.Judging.{tells}
 use Rattle.fabric.specs.Remains.{node_left}
 use Rattle.fabric.proofs.AfterStep.NodeOffTheLinks.{living-left}
 use Rattle.journal_check.specs.Calls.{AnswersAs, AreEffects, SendsAs, call_effects, is_on_link}
-use Rattle.journal_check.specs.Calls.{suits}
-use Rattle.journal_check.specs.Faults.{Keeps, laws_before}
+use Rattle.journal_check.specs.Calls.{own_items, suits}
+use Rattle.journal_check.specs.Earliest.{earliest_of}
+use Rattle.journal_check.specs.Faults.{Keeps, laws_before, told_beside}
 use Rattle.journal_check.specs.Tables.{AreLeft, Known, effects_in, endpoint_of_maker}
 use Rattle.journal_check.specs.Tables.{is_made_by_maker, is_patient, kernel_of_maker, restarted_node}
-use Rattle.journal_check.specs.Told.{ArePacketsTold, AreTicksTold, Told}
+use Rattle.journal_check.specs.Told.{ArePacketsTold, AreTicksTold, Told, earliest_told}
 use Rattle.journal_check.specs.declared.law.Law.{Law}
 use Rattle.journal_check.specs.declared.law.Law.TheVariants as laws
 use Rattle.journal_check.proofs.Actors.{actor-there, endpoint-is, endpoint-of, kept-maker}
@@ -41,7 +43,7 @@ use Rattle.journal_check.proofs.Bringing.{exact-kept, kept-exact}
 use Rattle.journal_check.proofs.Downs.{restart-same}
 use Rattle.journal_check.proofs.Heads.{bounded-kept, kept-bounded, kept-suits, suits-kept}
 use Rattle.journal_check.proofs.Nodes.{effects-same, maker-left}
-use Rattle.journal_check.proofs.Resting.{answered, patient, received}
+use Rattle.journal_check.proofs.Resting.{answered, own-same, patient, received}
 
 -- A SEND, at the node that the history leaves
 sends-law : (P : List Step) (node : NodeNo) (head : Head)
@@ -137,6 +139,13 @@ module _ (P : List Step) (t : Known) (left : AreLeft P t) (few : length P < 4294
       ),
     )
 
+    actor-items : own_items (kernel_of_maker t (Actor a)) (endpoint_of_maker t (Actor a))
+        ≡ queue_of P me
+    actor-items =
+        ap (λ (n : NodeState). own_items n (endpoint_of_maker t (Actor a))) kernel
+        ∙ ap (own_items old) mine
+        ∙ own-same P t left short a above within me refl
+
   -- A PUMP'S is a packet or a tick
   module _ (l : LinkNo) (es : List Effect) where
     pump-effects : (head : Head) → may_make (Pump l) head ≡ true
@@ -187,6 +196,14 @@ module _ (P : List Step) (t : Known) (left : AreLeft P t) (few : length P < 4294
     receives-agree (Actor a) made ends =
         let at = actor-there P t left a made in actor-receives a at.0 at.1 head ends
     receives-agree (Pump l) made ends = pump-receives l es head (pump-may P t left l head made)
+
+    -- the items of the maker's endpoint are those of its queue
+    items-agree : (by : By) → is_made_by_maker t by head ≡ true
+        → own_items (kernel_of_maker t by) (endpoint_of_maker t by)
+        ≡ queue_of P (endpoint_by P by)
+    items-agree (Actor a) made =
+        let at = actor-there P t left a made in actor-items a at.0 at.1
+    items-agree (Pump l) made = refl
 
   -- THE LAWS OF LINKS
   told-laws : (s : Step) → TellLinkLaws t.shape P t.book t.kernels s
@@ -262,6 +279,13 @@ module _ (P : List Step) (t : Known) (left : AreLeft P t) (few : length P < 4294
       ticks-kept s.by s.effects s.head before.1.1.1.0,
       kept-ticks s.by s.effects s.head before.1.1.1.0,
     )
+
+    -- AND WHAT IS TOLD BESIDE IT
+    pub tells-beside : (law : Law) → Before law → earliest_told t s law ≡ told_beside law P s
+    tells-beside laws.Receives before =
+        ap (λ items. earliest_of items s.head)
+        (items-agree s.head s.effects s.by before.1.1.1.1.0)
+    tells-beside _ before = refl
 
     abbrev Kept : Law → Type 0
     Kept law = AllByRecursion (Keeps t.shape P s) (laws_before law)

@@ -2,6 +2,7 @@
 use Rattle.std.proofs.Common.{◌≡◌, ◌≢◌, ℕ, zero, suc, ◌<◌, ◌≤◌, Bool, true, false, List, [], ◌∷◌}
 use Rattle.std.proofs.Common.{length, Option, Some, None, get_or, refl, sym, ◌∙◌, ap, subst, arith}
 use Rattle.std.proofs.Common.{◌==◌, slice_get, slice_set, eq-eqb, eqb-true, true≢false}
+use Rattle.linx_base.specs.FirstMatch.{first_match, without_match}
 
 -- two lists of one length are one where they have the same at each place
 pub same-lists : {X : Type 0} (xs ys : List X) → length xs ≡ length ys
@@ -40,6 +41,20 @@ pub is-get : {X : Type 0} (xs : List X) (k : ℕ) (v : X) → k < length xs → 
 is-get [] k v within is = absurd (omega arith)
 is-get (x ∷ xs) zero v within is = ap (λ (z : _). Some z) (sym is)
 is-get (x ∷ xs) (suc k) v within is = is-get xs k v (omega arith) is
+
+-- where none passes, none is taken out
+pub without-none : {X : Type 0} (p : X → Bool) (xs : List X) → first_match p xs ≡ None
+    → without_match p xs ≡ xs
+without-none p [] none = refl
+without-none p (x ∷ xs) none =
+    let go : (b : Bool) → p x ≡ b → without_match p (x ∷ xs) ≡ x ∷ xs = λ b.
+    elim b as (λ c. p x ≡ c → without_match p (x ∷ xs) ≡ x ∷ xs) [
+      | true ↦ λ e. let some : (let o : Option _ = Some x in o) ≡ None = rw e at none in cc
+      | false ↦ λ e. let rest : first_match p xs ≡ None = rw e at none in
+          rw e (ap (λ l. x ∷ l) (without-none p xs rest))
+    ]
+    in
+    go (p x) refl
 
 -- LISTS with one place changed
 pub get-set : {X : Type 0} (xs : List X) (i : ℕ) (x : X) → i < length xs

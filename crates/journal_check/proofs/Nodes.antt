@@ -1,7 +1,7 @@
 -- What the kernels tell of a step of an actor, and what they are after it: the history's words.
 use Rattle.std.proofs.Common.{◌≡◌, ℕ, zero, suc, ◌<◌, ◌≤◌, Bool, true, false, List, [], ◌∷◌}
 use Rattle.std.proofs.Common.{length, Option, Some, None, refl, sym, ◌∙◌, ap, subst, arith}
-use Rattle.std.proofs.Common.{is_some, nat_lt, slice_get, IsSomeAnd, eqb-true, ltb-false, ltb-true}
+use Rattle.std.proofs.Common.{is_some, nat_lt, slice_get, option_map, eqb-true, ltb-false, ltb-true}
 use Rattle.std.proofs.Common.{true≢false}
 use Rattle.std.specs.List.{list_any, AllByRecursion}
 use Rattle.std.proofs.lemmas.Bool.{or_left}
@@ -14,7 +14,7 @@ use Rattle.linx_base.specs.declared.identity.Peer.{Peer}
 use Rattle.linx_base.specs.declared.item.Item.{Item}
 use Rattle.linx_base.specs.declared.name.Path.{Path}
 use Rattle.linx_base.specs.SigNotes.{SigNote}
-use Rattle.sigsel.specs.Selection.{first_selected}
+use Rattle.sigsel.specs.Selection.{first_selected, is_selected}
 use Rattle.sigsel.specs.declared.sigsel.Sigsel.{Sigsel}
 use Rattle.journal.specs.declared.by.By.TheVariants.{Actor}
 use Rattle.journal.specs.declared.effect.Step.{Step}
@@ -31,16 +31,18 @@ use Rattle.journal.proofs.Openings.{IsBelow, IsShort, same_inc-refl}
 use Rattle.link_laws.specs.Laws.{IsLegal}
 use Rattle.link_laws.proofs.Endpoints.Places.{endpoint-on, open-below, owned}
 use Rattle.node_kernel.specs.Calls.{after_detach_of}
-use Rattle.node_kernel.specs.Nodes.{NodeState, items_at}
+use Rattle.node_kernel.specs.Nodes.{NodeState, OpenEndpoint, items_at, with_items}
+use Rattle.node_kernel.proofs.Calling.{same_items}
 use Rattle.fabric.specs.Remains.{node_left, IsNode}
 use Rattle.fabric.proofs.AfterStep.NodeOffTheLinks as nodes
-use Rattle.journal_check.specs.Calls.{AnswersAs, attach_effects, attach_of, call_after}
+use Rattle.journal_check.specs.Calls.{AnswersAs, after_receive, attach_effects, attach_of, call_after}
 use Rattle.journal_check.specs.Calls.{call_effects, hunt_effects, hunt_of, send_effects}
+use Rattle.journal_check.specs.Earliest.{first_at}
 use Rattle.journal_check.specs.Tables.{AreLeft}
 use Rattle.journal_check.specs.Tables.{Known, kernel_of, kernel_of_maker, kernel_or_empty}
 use Rattle.journal_check.specs.Tables.{restart_closings, restarted_node}
 use Rattle.journal_check.proofs.Books.{incs-left}
-use Rattle.journal_check.proofs.Lists.{past-list}
+use Rattle.journal_check.proofs.Lists.{past-list, without-none}
 
 -- THE EFFECTS OF A CALL at a node that a history left are those that its head has
 module _ (P : List Step) (node : NodeNo) where
@@ -73,6 +75,22 @@ module _ (P : List Step) (node : NodeNo) where
   effects-same me (heads.Restart m) plain = cc
   effects-same me _ plain = refl
 
+-- where no position is told, there is no item
+pub no-item : (o : Option Item) → option_map (λ (item : Item). item.pos) o ≡ None → o ≡ None
+no-item None none = refl
+no-item (Some item) none = cc none
+
+-- a receive that finds none leaves the node as it is
+vain-after : (n : NodeState) (j : Inc) (f : Sigsel) → first_at f (items_at n.endpoints j) ≡ None
+    → after_receive n j f ≡ n
+vain-after n j f none =
+    ap (λ (items : List Item). let m : NodeState = record n {
+      endpoints = with_items n.endpoints j items;
+    } in m) (without-none (is_selected f) (items_at n.endpoints j)
+    (no-item (first_selected f (items_at n.endpoints j)) none))
+    ∙ ap (λ (es : List OpenEndpoint). let m : NodeState = record n { endpoints = es } in m)
+    (same_items n.endpoints j)
+
 -- THE NODE AFTER A CALL of an actor that keeps the laws
 module _ (shape : Shape) (P : List Step) (legal : IsLegal shape P) (short : IsShort P)
     (k : ℕ) (node : NodeNo) (home : node_by shape (Actor k) ≡ node.0) where
@@ -104,11 +122,12 @@ module _ (shape : Shape) (P : List Step) (legal : IsLegal shape P) (short : IsSh
 
   taken : (j : Inc) → endpoint_of P k ≡ Some j → (f : Sigsel) (position : ItemAt)
       → (o : Option Item) → first_selected f (items_at old.endpoints j) ≡ o
-      → IsSomeAnd o (λ item. item.pos ≡ position)
+      → option_map (λ (item : Item). item.pos) o ≡ Some position
       → IsLeftBy (Some j) (heads.Take f position)
-  taken j mine f position None is answers = absurd answers
+  taken j mine f position None is answers = cc answers
   taken j mine f position (Some item) is answers =
-      subst (λ (p : ItemAt). IsLeftBy (Some j) (heads.Take f p)) answers
+      let same : item.pos ≡ position = cc answers in
+      subst (λ (p : ItemAt). IsLeftBy (Some j) (heads.Take f p)) same
       (nodes.node-take shape P legal short k node home j f item mine
       (ap (first_selected f) (sym (nodes.own-items shape P legal short k node home j mine)) ∙ is))
 
@@ -125,12 +144,12 @@ module _ (shape : Shape) (P : List Step) (legal : IsLegal shape P) (short : IsSh
       nodes.node-send shape P legal short k node home j q note answer mine
   by-endpoint (heads.Take f position) plain (Some j) mine ends answers =
       taken j mine f position (first_selected f (items_at old.endpoints j)) refl answers
-  by-endpoint (heads.TakeNone f) plain me mine ends answers =
+  by-endpoint (heads.TakeNone f) plain (Some j) mine ends answers =
       nodes.node-quiet shape P legal short k node home (heads.TakeNone f) refl (λ x. refl) refl
-      (λ a. refl) refl
-  by-endpoint (heads.Waits f) plain me mine ends answers =
+      (λ a. refl) refl ∙ sym (vain-after old j f answers)
+  by-endpoint (heads.Waits f) plain (Some j) mine ends answers =
       nodes.node-quiet shape P legal short k node home (heads.Waits f) refl (λ x. refl) refl
-      (λ a. refl) refl
+      (λ a. refl) refl ∙ sym (vain-after old j f answers)
   by-endpoint (heads.Hunt path note) plain (Some j) mine ends answers =
       nodes.node-hunt shape P legal short k node home j path note mine
   by-endpoint (heads.Attach q note) plain (Some j) mine ends answers =

@@ -1,9 +1,11 @@
 -- Who is at rest, and what a receive says: the law is what the tables tell.
 use Rattle.std.proofs.Common.{◌≡◌, ◌≢◌, ℕ, zero, suc, ◌<◌, ◌≤◌, Bool, true, false, ◌&&◌, ◌||◌, List}
 use Rattle.std.proofs.Common.{length, Option, Some, None, is_none, inl, inr, refl, sym, ◌∙◌, ap}
-use Rattle.std.proofs.Common.{subst, arith, ◌==◌, nat_lt, IsSomeAnd, eq-eqb, eqb-true, true≢false}
+use Rattle.std.proofs.Common.{arith, ◌==◌, nat_lt, option_map, IsSomeAnd, eq-eqb, eqb-true}
+use Rattle.std.proofs.Common.{true≢false}
 use Rattle.std.proofs.lemmas.Bool.{and_parts, or_cases, or_left, or_right}
 use Rattle.linx_base.specs.declared.identity.Inc.{Inc}
+use Rattle.linx_base.specs.declared.identity.ItemAt.{ItemAt}
 use Rattle.linx_base.specs.declared.identity.NodeNo.{NodeNo}
 use Rattle.linx_base.specs.declared.item.Item.{Item}
 use Rattle.sigsel.specs.Selection.{first_selected}
@@ -15,7 +17,7 @@ use Rattle.journal.specs.History.{endpoint_of, has_ended}
 use Rattle.journal.specs.Laws.{KeepsEndpoints}
 use Rattle.journal.specs.Laws.{KeepsReceives, detached_as}
 use Rattle.journal.specs.Queues.{queued}
-use Rattle.journal.specs.Rest.{is_idle, leaves_at_rest}
+use Rattle.journal.specs.Rest.{is_idle, leaves_at_rest, queue_of}
 use Rattle.journal.specs.Rest.{waits_in_vain, waits_with}
 use Rattle.journal.specs.Shapes.{node_by}
 use Rattle.journal.specs.declared.head.Head.TheVariants as heads
@@ -23,7 +25,8 @@ use Rattle.journal.proofs.Openings.{IsShort}
 use Rattle.node_kernel.specs.Nodes.{NodeState, items_at}
 use Rattle.fabric.specs.Remains.{node_left}
 use Rattle.fabric.proofs.AfterStep.NodeOffTheLinks as nodes
-use Rattle.journal_check.specs.Calls.{AnswersAs}
+use Rattle.journal_check.specs.Calls.{AnswersAs, own_items}
+use Rattle.journal_check.specs.Earliest.{first_at}
 use Rattle.journal_check.specs.Standings.{standing_of}
 use Rattle.journal_check.specs.Tables.{AreLeft, Known, all_leave_at_rest_in}
 use Rattle.journal_check.specs.Tables.{ended_in, endpoint_in, is_idle_in, is_patient_actor}
@@ -32,11 +35,23 @@ use Rattle.journal_check.specs.Tables.{waits_in_standing}
 use Rattle.journal_check.specs.declared.standing.Standing.{Standing}
 use Rattle.journal_check.proofs.Actors.{stands-left}
 use Rattle.journal_check.proofs.Heads.{both}
-use Rattle.journal_check.proofs.Nodes.{maker-left}
+use Rattle.journal_check.proofs.Nodes.{maker-left, no-item}
 
 no-filter : (w : Option Sigsel) → is_none w ≡ true → w ≡ None
 no-filter None is = refl
 no-filter (Some f) is = absurd (true≢false (sym is))
+
+-- the item at a position, and the position of an item
+there-is : (o : Option Item) (position : ItemAt)
+    → option_map (λ (item : Item). item.pos) o ≡ Some position
+    → IsSomeAnd o (λ item. item.pos ≡ position)
+there-is None position is = cc is
+there-is (Some item) position is = cc is
+
+is-there : (o : Option Item) (position : ItemAt) → IsSomeAnd o (λ item. item.pos ≡ position)
+    → option_map (λ (item : Item). item.pos) o ≡ Some position
+is-there None position is = absurd is
+is-there (Some item) position is = ap (λ (at : ItemAt). Some at) is
 
 module _ (P : List Step) (t : Known) (left : AreLeft P t) (short : IsShort P) where
   abbrev node : ℕ → NodeNo
@@ -119,6 +134,25 @@ module _ (P : List Step) (t : Known) (left : AreLeft P t) (short : IsShort P) wh
     items-same : (j : Inc) → endpoint_of P k ≡ Some j → items_at old.endpoints j ≡ queued P j
     items-same = nodes.own-items t.shape P left.legal short k (node k) refl
 
+    -- the items of its endpoint are those of its queue
+    pub own-same : (me : Option Inc) → endpoint_of P k ≡ me → own_items old me ≡ queue_of P me
+    own-same None mine = refl
+    own-same (Some j) mine = items-same j mine
+
+    first-same : (me : Option Inc) → endpoint_of P k ≡ me → (f : Sigsel)
+        → first_at f (own_items old me) ≡ first_at f (queue_of P me)
+    first-same me mine f = ap (first_at f) (own-same me mine)
+
+    none-selected : (me : Option Inc) → endpoint_of P k ≡ me → (f : Sigsel)
+        → first_at f (own_items old me) ≡ None → first_selected f (queue_of P me) ≡ None
+    none-selected me mine f none =
+        no-item (first_selected f (queue_of P me)) (sym (first-same me mine f) ∙ none)
+
+    selected-none : (me : Option Inc) → endpoint_of P k ≡ me → (f : Sigsel)
+        → first_selected f (queue_of P me) ≡ None → first_at f (own_items old me) ≡ None
+    selected-none me mine f none =
+        first-same me mine f ∙ ap (option_map (λ (item : Item). item.pos)) none
+
     waits-same : waits_in_standing (standing_of t.standings k) ≡ waits_with P k
     waits-same = ap waits_in_standing (stands-left P t left k above within)
 
@@ -128,28 +162,22 @@ module _ (P : List Step) (t : Known) (left : AreLeft P t) (short : IsShort P) wh
     pub received : (me : Option Inc) → endpoint_of P k ≡ me → (head : Head)
         → KeepsEndpoints me head → AnswersAs old me head → is_patient_actor t k head ≡ true
         → Receives me head
-    received None mine (heads.Take f position) ends answers patient =
-        absurd (true≢false (sym (ends.needs refl)))
-    received None mine (heads.TakeNone f) ends answers patient =
-        absurd (true≢false (sym (ends.needs refl)))
-    received None mine (heads.Waits f) ends answers patient =
-        absurd (true≢false (sym (ends.needs refl)))
-    received None mine (heads.Detach r answer) ends answers patient =
-        absurd (true≢false (sym (ends.needs refl)))
-    received (Some j) mine (heads.Take f position) ends answers patient =
-        subst (λ items. IsSomeAnd (first_selected f items) (λ (item : Item). item.pos ≡ position))
-        (items-same j mine) answers
-    received (Some j) mine (heads.TakeNone f) ends answers patient = (
-      ap (first_selected f) (sym (items-same j mine)) ∙ answers,
+    received me mine (heads.Take f position) ends answers patient =
+        there-is (first_selected f (queue_of P me)) position
+        (sym (first-same me mine f) ∙ answers)
+    received me mine (heads.TakeNone f) ends answers patient = (
+      none-selected me mine f answers,
       record {
         others = λ other over under different. rest-each k (length t.shape.actors) (omega arith)
             patient other over under different;
       },
     )
-    received (Some j) mine (heads.Waits f) ends answers patient = (
-      ap (first_selected f) (sym (items-same j mine)) ∙ answers,
+    received me mine (heads.Waits f) ends answers patient = (
+      none-selected me mine f answers,
       sym waits-same ∙ no-filter (waits_in_standing (standing_of t.standings k)) patient,
     )
+    received None mine (heads.Detach r answer) ends answers patient =
+        absurd (true≢false (sym (ends.needs refl)))
     received (Some j) mine (heads.Detach r answer) ends answers patient =
         answers ∙ nodes.detached-left t.shape P left.legal short k (node k) refl j r mine
         ∙ ap (λ (e : Option Inc). detached_as P
@@ -158,19 +186,17 @@ module _ (P : List Step) (t : Known) (left : AreLeft P t) (short : IsShort P) wh
 
     pub answered : (me : Option Inc) → endpoint_of P k ≡ me → (head : Head)
         → Receives me head → AnswersAs old me head
-    answered None mine head kept = tt
-    answered (Some j) mine (heads.Take f position) kept =
-        subst (λ items. IsSomeAnd (first_selected f items) (λ (item : Item). item.pos ≡ position))
-        (sym (items-same j mine)) kept
-    answered (Some j) mine (heads.TakeNone f) kept =
-        ap (first_selected f) (items-same j mine) ∙ kept.0
-    answered (Some j) mine (heads.Waits f) kept =
-        ap (first_selected f) (items-same j mine) ∙ kept.0
+    answered me mine (heads.Take f position) kept =
+        first-same me mine f
+        ∙ is-there (first_selected f (queue_of P me)) position kept
+    answered me mine (heads.TakeNone f) kept = selected-none me mine f kept.0
+    answered me mine (heads.Waits f) kept = selected-none me mine f kept.0
+    answered None mine (heads.Detach r answer) kept = tt
     answered (Some j) mine (heads.Detach r answer) kept =
         kept ∙ sym (nodes.detached-left t.shape P left.legal short k (node k) refl j r mine
         ∙ ap (λ (e : Option Inc). detached_as P
         (node_by t.shape (Actor k)) e r) mine)
-    answered (Some j) mine _ kept = tt
+    answered me mine _ kept = tt
 
     pub patient : (me : Option Inc) (head : Head) → Receives me head
         → is_patient_actor t k head ≡ true

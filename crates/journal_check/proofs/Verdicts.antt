@@ -21,17 +21,17 @@ use Rattle.link_check.proofs.AtLinks.{there-of}
 use Rattle.link_check.proofs.Books.{pass-left}
 use Rattle.fabric.specs.Remains.{AreNodesLeft, IsLaidOut}
 use Rattle.journal_check.specs.Brought.{side_reached}
-use Rattle.journal_check.specs.Faults.{Breaks}
+use Rattle.journal_check.specs.Faults.{Breaks, told_beside}
 use Rattle.journal_check.specs.Tables.{AreLeft, IsPast, Known, effects_there, endpoint_of_maker}
 use Rattle.journal_check.specs.Tables.{is_made_by_maker, kernel_of, kernels_past, kernels_reached}
 use Rattle.journal_check.specs.Tables.{restarted_in, restarted_node}
 use Rattle.journal_check.specs.Told.{ArePacketsTold, AreTicksTold, IsAllTold}
 use Rattle.journal_check.specs.Told.{IsToldVerdict, Told}
-use Rattle.journal_check.specs.declared.law.Law.{Law}
+use Rattle.journal_check.specs.declared.law.Broken.{Broken}
 use Rattle.journal_check.specs.declared.law.Law.TheVariants as laws
 use Rattle.journal_check.proofs.Actors.{actor-there, endpoint-of, pump-reaches}
 use Rattle.journal_check.proofs.Bringing.{brought-next, some-one}
-use Rattle.journal_check.proofs.Laws.{actor-answers, agrees, all-kept, short}
+use Rattle.journal_check.proofs.Laws.{actor-answers, agrees, all-kept, short, tells-beside}
 use Rattle.journal_check.proofs.Lists.{length-set}
 use Rattle.journal_check.proofs.Onward.{kernels-next, standings-next}
 
@@ -98,12 +98,18 @@ module _ (P : List Step) (t : Known) (left : AreLeft P t) (few : length P < 4294
       }
 
   -- A BROKEN LAW
-  pub verdict-broken : (s : Step) (new : Known) (law : Law)
-      → IsToldVerdict t k s new (Some law) → Breaks t.shape P s law
-  verdict-broken s new law told = record {
-    earlier = all-kept P t left few s law told.earlier;
-    broken = λ kept. told.broken ((agrees P t left few s law told.earlier).1 kept);
+  pub verdict-broken : (s : Step) (new : Known) (wrong : Broken)
+      → IsToldVerdict t k s new (Some wrong) → Breaks t.shape P s wrong.law
+  verdict-broken s new wrong told = record {
+    earlier = all-kept P t left few s wrong.law told.earlier;
+    broken = λ kept. told.broken ((agrees P t left few s wrong.law told.earlier).1 kept);
   }
+
+  -- and what is told beside it
+  pub verdict-beside : (s : Step) (new : Known) (wrong : Broken)
+      → IsToldVerdict t k s new (Some wrong) → wrong.earliest ≡ told_beside wrong.law P s
+  verdict-beside s new wrong told =
+      told.earliest ∙ tells-beside P t left few s wrong.law told.earlier
 
   -- THE KERNELS AFTER IT
   module _ (s : Step) (told : IsAllTold t k s) where

@@ -5,12 +5,12 @@ use Rattle.journal.specs.declared.effect.Step.{Step}
 use Rattle.journal.specs.Histories.{first_steps}
 use Rattle.journal.specs.Shapes.{Shape}
 use Rattle.link_laws.specs.Laws.{IsLegal}
-use Rattle.journal_check.specs.Faults.{Breaks, IsFault}
+use Rattle.journal_check.specs.Faults.{Breaks, IsFault, told_beside}
 use Rattle.journal_check.specs.Tables.{AreLeft, IsReady, Known}
 use Rattle.journal_check.specs.Told.{IsToldVerdict}
-use Rattle.journal_check.specs.declared.law.Law.{Law}
+use Rattle.journal_check.specs.declared.law.Broken.{Broken}
 use Rattle.journal_check.proofs.Ready.{ready}
-use Rattle.journal_check.proofs.Verdicts.{verdict-broken, verdict-legal}
+use Rattle.journal_check.proofs.Verdicts.{verdict-beside, verdict-broken, verdict-legal}
 
 drop-length : (xs : List Step) → drop (length xs) xs ≡ []
 drop-length [] = refl
@@ -53,19 +53,23 @@ module _ (shape : Shape) (steps : List Step) (t : Known) (done : ℕ)
     pub loop-shape : IsToldVerdict t (done + 1) s new None → new.shape ≡ shape
     loop-shape told = told.1.shape ∙ is
 
-    pub loop-fault : (law : Law) → IsToldVerdict t (done + 1) s new (Some law)
-        → IsFault shape steps (record { step = done + 1; law = law })
-    loop-fault law told =
+    pub loop-fault : (wrong : Broken) → IsToldVerdict t (done + 1) s new (Some wrong)
+        → IsFault shape steps
+        (record { step = done + 1; law = wrong.law; earliest = wrong.earliest })
+    loop-fault wrong told =
         let back : done ≡ done + 1 - 1 = omega arith in
+        let here : IsToldVerdict t (suc (length P)) s new (Some wrong) =
+        subst (λ (k : ℕ). IsToldVerdict t k s new (Some wrong)) (sym at) told in
         record {
           step = s;
           there = next ∙ ap (λ (k : ℕ). s ∷ first_steps k steps) back;
           legal = subst (λ (k : ℕ). IsLegal shape (first_steps k steps)) back
               (subst (λ (x : Shape). IsLegal x P) is left.legal);
-          breaks = subst (λ (k : ℕ). Breaks shape (first_steps k steps) s law) back
-              (subst (λ (x : Shape). Breaks x P s law) is
-              (verdict-broken P t left few-steps s new law
-              (subst (λ (k : ℕ). IsToldVerdict t k s new (Some law)) (sym at) told)));
+          breaks = subst (λ (k : ℕ). Breaks shape (first_steps k steps) s wrong.law) back
+              (subst (λ (x : Shape). Breaks x P s wrong.law) is
+              (verdict-broken P t left few-steps s new wrong here));
+          earliest = verdict-beside P t left few-steps s new wrong here
+              ∙ ap (λ (k : ℕ). told_beside wrong.law (first_steps k steps) s) back;
         }
 
 -- and at its end

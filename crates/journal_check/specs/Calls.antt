@@ -1,15 +1,17 @@
 -- What a head of an endpoint asks of its node, by the calls of the node's kernel.
 use Rattle.std.specs.Prelude.{ℕ, ◌≡◌, Bool, true, false, not, ◌&&◌, ◌||◌, nat_le, nat_lt}
-use Rattle.std.specs.Prelude.{List, [], length, Option, Some, None, is_none, is_some, IsSomeAnd}
+use Rattle.std.specs.Prelude.{List, [], length, Option, Some, None, is_none, is_some}
 use Rattle.linx_base.specs.Content.{data_limit}
 use Rattle.linx_base.specs.NameText.{is_name}
 use Rattle.linx_base.specs.declared.identity.Inc.{Inc}
+use Rattle.linx_base.specs.declared.identity.ItemAt.{ItemAt}
 use Rattle.linx_base.specs.declared.identity.Peer.{Peer}
+use Rattle.linx_base.specs.declared.item.Item.{Item}
 use Rattle.linx_base.specs.declared.name.Path.{Path}
 use Rattle.linx_base.specs.declared.pending.PendingAttach.{PendingAttach}
 use Rattle.linx_base.specs.declared.pending.PendingHunt.{PendingHunt}
 use Rattle.linx_base.specs.SigNotes.{SigNote}
-use Rattle.sigsel.specs.Selection.{first_selected, without_first}
+use Rattle.sigsel.specs.Selection.{without_first}
 use Rattle.sigsel.specs.declared.sigsel.Sigsel.{Sigsel}
 use Rattle.journal.specs.declared.effect.Effect.{Effect}
 use Rattle.journal.specs.declared.head.Head.{Head}
@@ -22,6 +24,7 @@ use Rattle.node_kernel.specs.Calls.{after_attach, after_close, after_detach, aft
 use Rattle.node_kernel.specs.Calls.{after_open, after_send, detached}
 use Rattle.node_kernel.specs.Nodes.{NodeState, find_at}
 use Rattle.node_kernel.specs.Nodes.{is_living, items_at, next_of, with_items}
+use Rattle.journal_check.specs.Earliest.{earliest_of, first_at}
 
 -- a hunt of an endpoint in step k, as its node keeps it
 abbrev pub hunt_of : ℕ → Inc → Path → SigNote → PendingHunt
@@ -74,7 +77,8 @@ abbrev pub after_if : Option Inc → NodeState → (Inc → NodeState) → NodeS
 after_if None n after = n
 after_if (Some j) n after = after j
 
--- a node without the item that a filter selects first at an endpoint
+-- a node without the item that a filter selects first at an endpoint; where it selects none, nothing
+-- changes
 abbrev pub after_receive : NodeState → Inc → Sigsel → NodeState
 after_receive n j filter = record n {
   endpoints = with_items n.endpoints j (without_first filter (items_at n.endpoints j));
@@ -86,8 +90,8 @@ call_after n k me (Open name) = after_open n name k
 call_after n k me Close = after_if me n (λ j. after_close n j k)
 call_after n k me (Send q note answer) = after_if me n (λ j. after_send n j q note k)
 call_after n k me (Take filter position) = after_if me n (λ j. after_receive n j filter)
-call_after n k me (TakeNone filter) = n
-call_after n k me (Waits filter) = n
+call_after n k me (TakeNone filter) = after_if me n (λ j. after_receive n j filter)
+call_after n k me (Waits filter) = after_if me n (λ j. after_receive n j filter)
 call_after n k me (Hunt path note) = after_if me n (λ j. after_hunt n (hunt_of k j path note))
 call_after n k me (Attach q note) = after_if me n (λ j. after_attach n (attach_of k j q note))
 call_after n k me (Detach r answer) = after_if me n (λ j. after_detach n j r)
@@ -100,13 +104,21 @@ call_after n k me (Tick l side) = n
 call_after n k me (Refused reason) = n
 call_after n k me Ended = after_if me n (λ j. after_close n j k)
 
+-- the items at a maker's endpoint; none where it has none
+abbrev pub own_items : NodeState → Option Inc → List Item
+own_items n None = []
+own_items n (Some j) = items_at n.endpoints j
+
+-- WHICH ITEM a call is to take at the node of its maker
+abbrev pub earliest_in : NodeState → Option Inc → Head → Option ItemAt
+earliest_in n me head = earliest_of (own_items n me) head
+
 -- WHAT IT ANSWERS is what the head says: the item that is taken, or that none is selected, and what
 -- a detach did
 abbrev pub AnswersAs : NodeState → Option Inc → Head → Type 0
-AnswersAs n (Some j) (Take filter position) =
-    IsSomeAnd (first_selected filter (items_at n.endpoints j)) (λ item. item.pos ≡ position)
-AnswersAs n (Some j) (TakeNone filter) = first_selected filter (items_at n.endpoints j) ≡ None
-AnswersAs n (Some j) (Waits filter) = first_selected filter (items_at n.endpoints j) ≡ None
+AnswersAs n me (Take filter position) = first_at filter (own_items n me) ≡ Some position
+AnswersAs n me (TakeNone filter) = first_at filter (own_items n me) ≡ None
+AnswersAs n me (Waits filter) = first_at filter (own_items n me) ≡ None
 AnswersAs n (Some j) (Detach r answer) = answer ≡ detached n j r
 AnswersAs n me head = Unit {0}
 

@@ -1,6 +1,7 @@
 -- The laws of a step by their names, and the first fault of a journal.
 use Rattle.std.specs.Prelude.{◌-◌, ◌≡◌, List, [], ◌∷◌, Option, Some, None}
 use Rattle.std.specs.List.{AllByRecursion}
+use Rattle.linx_base.specs.declared.identity.ItemAt.{ItemAt}
 use Rattle.journal.specs.declared.effect.Step.{Step}
 use Rattle.journal.specs.Histories.{first_steps}
 use Rattle.journal.specs.History.{endpoint_by}
@@ -9,6 +10,7 @@ use Rattle.journal.specs.Laws.{KeepsMakers, KeepsReceives, KeepsSends}
 use Rattle.journal.specs.Shapes.{Shape, node_by}
 use Rattle.link_laws.specs.Laws.{HasEffects, IsLegal, IsLegalStep, KeepsCuts, KeepsLinks}
 use Rattle.link_laws.specs.Laws.{KeepsPackets, KeepsRest, KeepsTicks}
+use Rattle.journal_check.specs.Earliest.{earliest_at}
 use Rattle.journal_check.specs.declared.law.Fault.{Fault}
 use Rattle.journal_check.specs.declared.law.Law.{Law}
 use Rattle.journal_check.specs.declared.law.Law.TheVariants as laws
@@ -63,12 +65,20 @@ abbrev pub IsVerdict : Shape → List Step → Step → Option Law → Type 0
 IsVerdict shape P s None = IsLegalStep shape P s
 IsVerdict shape P s (Some law) = Breaks shape P s law
 
--- THE FAULT of a journal: a step of it, before which all are legal, and the first law that it breaks
+-- what is told of a step beside the law that it breaks: where that is the law of receiving, what the
+-- step was to take
+abbrev pub told_beside : Law → List Step → Step → Option ItemAt
+told_beside laws.Receives P s = earliest_at P s
+told_beside _ P s = None
+
+-- THE FAULT of a journal: a step of it, before which all are legal, and the first law that it breaks;
+-- of a receive, too, which item it was to take
 pub record IsFault (shape : Shape) (steps : List Step) (fault : Fault) : Type 0 where
   pub step : Step
   pub there : first_steps fault.step steps ≡ step ∷ first_steps (fault.step - 1) steps
   pub legal : IsLegal shape (first_steps (fault.step - 1) steps)
   pub breaks : Breaks shape (first_steps (fault.step - 1) steps) step fault.law
+  pub earliest : fault.earliest ≡ told_beside fault.law (first_steps (fault.step - 1) steps) step
 
 -- WHAT A CHECK ANSWERS: nothing where the journal is legal, or else its fault
 abbrev pub IsAnswer : Shape → List Step → Option Fault → Type 0

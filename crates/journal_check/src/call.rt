@@ -1,5 +1,6 @@
 //! A step run again at the kernel of its node.
 ghost use Rattle.std.specs.Prelude.{◌≡◌, ◌↔◌, ◌<◌, ◌≤◌, [], length, IsTrue, IfOk, OnOk, true};
+ghost use Rattle.std.specs.Prelude.{None, Some};
 ghost use Rattle.linx_base.specs.Content.{data_limit};
 ghost use Rattle.journal.specs.Effects.{arrivals_of, ending, opening, send_answer};
 ghost use Rattle.journal.specs.declared.head.Head.TheVariants as heads;
@@ -9,7 +10,9 @@ ghost use Rattle.node_kernel.specs.Nodes.{endpoint_limit, is_living};
 ghost use Rattle.node_kernel.specs.Nodes.{next_of};
 ghost use Rattle.journal_check.specs.Calls.{AnswersAs, SendsAs, after_if, after_receive};
 ghost use Rattle.journal_check.specs.Calls.{attach_effects, attach_of, call_after, call_effects};
-ghost use Rattle.journal_check.specs.Calls.{hunt_effects, hunt_of, is_bounded, send_effects};
+ghost use Rattle.journal_check.specs.Calls.{earliest_in, hunt_effects, hunt_of, is_bounded};
+ghost use Rattle.journal_check.specs.Calls.{own_items, send_effects};
+ghost use Rattle.journal_check.specs.Earliest.{first_at};
 
 use journal::{Detached, Effect, Effects, Head, SentTo};
 use linx_base::{AttRef, Inc, ItemAt, Name, NoMemory, Path, Peer, SigNote, TryCopy};
@@ -17,10 +20,12 @@ use node_kernel::{Kernel, OpenError};
 use sigsel::Sigsel;
 use std::alloc::Global;
 
-/// What a step that was run again had as effects, and whether it is answered as its head says.
+/// What a step that was run again had as effects, which item it was to take, and whether it is
+/// answered as its head says.
 #[derive(Drop)]
 pub(crate) struct Called {
     pub(crate) effects: Effects,
+    pub(crate) earliest: Option<ItemAt>,
     pub(crate) answered: bool,
 }
 
@@ -164,19 +169,33 @@ fn same_position(a: ItemAt, b: ItemAt) -> bool
     a.step == b.step && a.place == b.place
 }
 
-/// Takes the first selected item, and says whether it is the one at this position.
-fn take(kernel: &mut Kernel, me: Option<Inc>, filter: &Sigsel, position: ItemAt) -> bool
-    ensures answered { IsTrue result
-        ↔ AnswersAs kernel.old me (heads.Take filter.now position) }
+/// Takes the first selected item at an endpoint, and tells where it came from.
+fn receive(kernel: &mut Kernel, me: Option<Inc>, filter: &Sigsel) -> Option<ItemAt>
+    ensures earliest { result ≡ first_at filter.now (own_items kernel.old me) }
     ensures after { kernel.new
         ≡ after_if me kernel.old (λ j. after_receive kernel.old j filter.now) }
 {
-    let Some(at) = me else {
-        return true;
-    };
-    match kernel.receive(at, filter) {
-        Some(item) => same_position(item.pos, position),
+    let item = kernel.receive(me?, filter)?;
+    Some(item.pos)
+}
+
+/// Whether the item is the one at this position.
+fn is_at(earliest: Option<ItemAt>, position: ItemAt) -> bool
+    ensures { IsTrue result ↔ (earliest ≡ Some position) }
+{
+    match earliest {
+        Some(at) => same_position(at, position),
         None => false,
+    }
+}
+
+/// Whether there is no item.
+fn is_vain(earliest: Option<ItemAt>) -> bool
+    ensures { IsTrue result ↔ (earliest ≡ None) }
+{
+    match earliest {
+        Some(_) => false,
+        None => true,
     }
 }
 
@@ -197,24 +216,15 @@ fn detach(kernel: &mut Kernel, me: Option<Inc>, r: AttRef, answer: Detached) -> 
     }
 }
 
-/// Whether nothing is selected at an endpoint.
-fn is_vain(kernel: &Kernel, me: Option<Inc>, filter: &Sigsel) -> bool
-    ensures none { IsTrue result ↔ AnswersAs kernel.now me (heads.TakeNone filter.now) }
-    ensures waits { IsTrue result ↔ AnswersAs kernel.now me (heads.Waits filter.now) }
-{
-    match me {
-        Some(at) => !kernel.holds(at, filter),
-        None => true,
-    }
-}
-
-/// A call without effects.
-pub(crate) fn quiet(alloc: Global, answered: bool) -> Called
+/// A call without effects, with the item that it was to take.
+fn quiet(alloc: Global, earliest: Option<ItemAt>, answered: bool) -> Called
     ensures effects { result.effects ≡ [] }
+    ensures earliest { result.earliest ≡ earliest }
     ensures answered { result.answered ≡ answered }
 {
     Called {
         effects: Effects::new(alloc),
+        earliest,
         answered,
     }
 }
@@ -222,10 +232,12 @@ pub(crate) fn quiet(alloc: Global, answered: bool) -> Called
 /// A call with these effects.
 pub(crate) fn heard(effects: Effects) -> Called
     ensures effects { result.effects ≡ effects }
+    ensures earliest { result.earliest ≡ None }
     ensures answered { result.answered ≡ true }
 {
     Called {
         effects,
+        earliest: None,
         answered: true,
     }
 }
@@ -243,6 +255,8 @@ pub(crate) fn call(
     requires bounded { IsTrue (is_bounded head.now) }
     ensures effects { IfOk result (λ called. called.effects
         ≡ call_effects kernel.old step me head.now) }
+    ensures earliest { IfOk result (λ called. called.earliest
+        ≡ earliest_in kernel.old me head.now) }
     ensures answered { IfOk result (λ called. IsTrue called.answered
         ↔ AnswersAs kernel.old me head.now) }
     ensures after { OnOk result (kernel.new ≡ call_after kernel.old step me head.now) }
@@ -255,16 +269,18 @@ pub(crate) fn call(
         Head::Hunt(path, note) => Ok(heard(hunt(alloc, kernel, me, path, note, step)?)),
         Head::Attach(to, note) => Ok(heard(attach(alloc, kernel, me, *to, note, step)?)),
         Head::Take(filter, position) => {
-            let answered = take(kernel, me, filter, *position);
-            Ok(quiet(alloc, answered))
+            let earliest = receive(kernel, me, filter);
+            Ok(quiet(alloc, earliest, is_at(earliest, *position)))
         }
-        Head::TakeNone(filter) => Ok(quiet(alloc, is_vain(kernel, me, filter))),
-        Head::Waits(filter) => Ok(quiet(alloc, is_vain(kernel, me, filter))),
+        Head::TakeNone(filter) | Head::Waits(filter) => {
+            let earliest = receive(kernel, me, filter);
+            Ok(quiet(alloc, earliest, is_vain(earliest)))
+        }
         Head::Detach(r, answer) => {
             let answered = detach(kernel, me, *r, *answer);
-            Ok(quiet(alloc, answered))
+            Ok(quiet(alloc, None, answered))
         }
-        _ => Ok(quiet(alloc, true)),
+        _ => Ok(quiet(alloc, None, true)),
     }
 }
 

@@ -29,10 +29,11 @@ pub fn first_illegal(
     for done in 0..journal.len() {
         let step = journal.step_after(done);
         match checker.judge(step, done + 1)? {
-            Some(law) => {
+            Some(broken) => {
                 return Ok(Some(Fault {
                     step: done + 1,
-                    law,
+                    law: broken.law,
+                    earliest: broken.earliest,
                 }));
             }
             None => (),

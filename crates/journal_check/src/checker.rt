@@ -15,7 +15,7 @@ ghost use Rattle.link_check.specs.Told.{IsThere, keeps_cuts, keeps_rest, may_pas
 ghost use Rattle.fabric.specs.Remains.{IsLaidOut};
 ghost use Rattle.fabric.specs.Standings.{empty_nodes};
 ghost use Rattle.journal_check.specs.Calls.{AnswersAs, SendsAs, call_after, call_effects};
-ghost use Rattle.journal_check.specs.Calls.{is_bounded};
+ghost use Rattle.journal_check.specs.Calls.{earliest_in, is_bounded};
 ghost use Rattle.journal_check.specs.Standings.{fresh, standing_of};
 ghost use Rattle.journal_check.specs.Tables.{AreLeft, ArePast, IsReady, all_leave_at_rest_in};
 ghost use Rattle.journal_check.specs.Tables.{is_patient_actor, IsPast, kernels_past};
@@ -334,6 +334,7 @@ impl Checker {
         requires ready { IsReady self.old }
         ensures effects { IfOk result (λ called. called.effects
             ≡ restart_effects self.old node.0) }
+        ensures earliest { IfOk result (λ called. called.earliest ≡ None) }
         ensures answered { IfOk result (λ called. called.answered ≡ true) }
         ensures after { OnOk result (self.new ≡ record self.old {
           kernels = restarted_in (kernel_of self.old.kernels node.0) self.old.kernels node.0;
@@ -358,6 +359,8 @@ impl Checker {
         requires bounded { IsTrue (is_bounded head.now) }
         ensures effects { IfOk result (λ called. called.effects
             ≡ call_effects (kernel_of_maker self.old (By.Actor actor)) step me head.now) }
+        ensures earliest { IfOk result (λ called. called.earliest
+            ≡ earliest_in (kernel_of_maker self.old (By.Actor actor)) me head.now) }
         ensures answered { IfOk result (λ called. IsTrue called.answered
             ↔ AnswersAs (kernel_of_maker self.old (By.Actor actor)) me head.now) }
         ensures after { OnOk result (self.new ≡ record self.old {
@@ -384,6 +387,9 @@ impl Checker {
         requires mine { me ≡ endpoint_of_maker self.old (By.Actor actor) }
         ensures effects { IfOk result (λ called. called.effects
             ≡ effects_in self.old step (By.Actor actor) head.now) }
+        ensures earliest { IfOk result (λ called. called.earliest
+            ≡ earliest_in (kernel_of_maker self.old (By.Actor actor))
+            (endpoint_of_maker self.old (By.Actor actor)) head.now) }
         ensures answered { IfOk result (λ called. IsTrue called.answered
             ↔ AnswersAs (kernel_of_maker self.old (By.Actor actor))
             (endpoint_of_maker self.old (By.Actor actor)) head.now) }

@@ -1,5 +1,7 @@
-ghost use Rattle.std.specs.Prelude.{◌≡◌};
+ghost use Rattle.std.specs.Prelude.{◌≡◌, None};
 ghost use Rattle.journal_check.specs.Words.{rule_of, word_of};
+
+use linx_base::ItemAt;
 
 /// The laws of a step, in the order in which they are looked at.
 #[derive(Clone, Copy, Debug, PartialEq, Eq, Hash)]
@@ -33,6 +35,28 @@ pub enum Law {
 pub struct Fault {
     pub step: u64,
     pub law: Law,
+    /// Of a receive that breaks the law of receiving: where the earliest item came from that its
+    /// filter selects, if it selects one.
+    pub earliest: Option<ItemAt>,
+}
+
+/// The first law that a step breaks, and the item that it was to take.
+#[derive(Clone, Copy)]
+pub(crate) struct Broken {
+    pub(crate) law: Law,
+    pub(crate) earliest: Option<ItemAt>,
+}
+
+impl Broken {
+    /// A law that asks for no item.
+    pub(crate) fn of(law: Law) -> Broken
+        ensures { result ≡ record { law = law; earliest = None } }
+    {
+        Broken {
+            law,
+            earliest: None,
+        }
+    }
 }
 
 impl Law {

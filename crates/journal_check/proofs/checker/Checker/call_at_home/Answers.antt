@@ -3,7 +3,7 @@ use Rattle.std.proofs.Common.{slice_get, slice_set}
 use Rattle.journal.specs.declared.by.By.TheVariants.{Actor}
 use Rattle.journal.specs.Shapes.{node_by}
 use Rattle.node_kernel.specs.Nodes.{NodeState}
-use Rattle.journal_check.specs.Calls.{AnswersAs, call_after, call_effects}
+use Rattle.journal_check.specs.Calls.{AnswersAs, call_after, call_effects, earliest_in}
 use Rattle.journal_check.specs.Tables.{Known, kernel_of_maker}
 use Rattle.journal_check.proofs.Passing.{on-ok}
 use Rattle.journal_check.proofs.Ready.{kernel-read, maker-at}
@@ -36,6 +36,19 @@ returns-clause-effects c =
     c.home_of-home.ensures.place there in
     subst (λ (n : NodeState). IfOk c.call.result (λ called. called.effects
     ≡ call_effects n c.args.step c.args.me c.args.head.now)) (sym is) c.call.ensures.effects
+
+pub returns-clause-earliest : goal.returns-clause-earliest
+returns-clause-earliest c =
+    let there : slice_get c.args.self.now.kernels c.home_of-home.result
+    ≡ Some c.index_mut.result.now =
+    kernel-read c.args.self.now c.self.inside.kernels.items c.home_of-home.result
+    c.index_mut.result.now (ap (λ (t : Known). t.kernels) c.self.view_is)
+    c.home_of-home.ensures.inside c.index_mut.ensures.value in
+    let is : kernel_of_maker c.args.self.now (Actor c.args.actor) ≡ c.index_mut.result.now =
+    maker-at c.args.self.now c.args.actor c.home_of-home.result c.index_mut.result.now
+    c.home_of-home.ensures.place there in
+    subst (λ (n : NodeState). IfOk c.call.result (λ called. called.earliest
+    ≡ earliest_in n c.args.me c.args.head.now)) (sym is) c.call.ensures.earliest
 
 pub returns-clause-answered : goal.returns-clause-answered
 returns-clause-answered c =
