@@ -2,7 +2,7 @@
 """Draws the chart of a printed text by itself, as SVG: what `journal_charts` is judged by. A script, and
 a line `text`, may stand before it.
 
-    bench/try charts [plain] [fold] [steps A B] [of M,..] < TEXT > CHART.svg
+    bench/try charts [plain] [fold] [steps A B] [of M,..] < TEXT > CHART.svg    in any order
 """
 import re
 import sys
@@ -713,12 +713,14 @@ def drawing(text, words):
     """The drawing of a text that the words ask for."""
     asked = {"plain": False, "fold": False}
     rest = list(words)
-    while rest[:1] and rest[0] in asked:
-        asked[rest.pop(0)] = True
-    if rest[:1] == ["steps"]:
-        asked["window"], rest = tuple(map(int, rest[1:3])), rest[3:]
-    if rest[:1] == ["of"]:
-        asked["makers"] = rest[1].split(",")
+    while rest:
+        word = rest.pop(0)
+        if word == "steps":
+            asked["window"], rest = tuple(map(int, rest[:2])), rest[2:]
+        elif word == "of":
+            asked["makers"] = rest.pop(0).split(",")
+        else:
+            asked[word] = True
     return Drawing(Run(text), **asked)
 
 

@@ -26,7 +26,7 @@ TOP = BENCH.parent
 PICTURES = TOP / "docs/use/pictures"
 ROWS_MOST = 6000
 SECONDS = 60
-TOO_LARGE = b"linx_sim: more than 6000 rows: draw steps A B\n"
+TOO_LARGE = b"linx_sim: more than 6000 rows: map, fold or steps\n"
 
 
 def journal_of(text):
@@ -66,6 +66,15 @@ def texts(program, count):
             yield name, text
 
 
+def picture(program, name):
+    """The picture of docs/use/pictures with this name: of an example's text alone, or, where words of
+    `chart` stand behind the example's name, by these words of its script and text."""
+    example, *words = name.split(".")
+    script = (TOP / "examples" / f"{example}.linx").read_bytes()
+    text = judge.ended([program, "serial"], script, SECONDS)[2]
+    return judge.ended([program, "chart", *words], script + b"text\n" + text if words else text, SECONDS)[2]
+
+
 def main():
     """Draws all of them."""
     parser = arguments.parser(__doc__)
@@ -81,9 +90,7 @@ def main():
             if fault is not None:
                 faults.append(f"{name} {' '.join(view)}: {fault}")
     for path in sorted(PICTURES.glob("*.svg")):
-        script = (TOP / "examples" / f"{path.stem}.linx").read_bytes()
-        text = judge.ended([program, "serial"], script, SECONDS)[2]
-        if judge.ended([program, "chart"], text, SECONDS)[2] != path.read_bytes():
+        if picture(program, path.stem) != path.read_bytes():
             faults.append(f"{path.name}: another picture")
     print(f"{same} charts are the same")
     if faults:

@@ -1,8 +1,8 @@
 -- From how a work ends to what was read and written.
 use Rattle.std.proofs.Common.{◌≡◌, ◌≢◌, ℕ, ◌≤◌, ◌<◌, inl, inr, true, List, length, refl, subst, arith}
-use Rattle.std.proofs.Common.{Option, Some, Result, Ok}
+use Rattle.std.proofs.Common.{Option, Some, Ok, Err}
 use Rattle.std.specs.Io.KnownBytes.{IsAtEnd}
-use Rattle.chart_drawing.specs.declared.drawing.DrawError.{DrawError}
+use Rattle.command_words.specs.Charts.{makers_named}
 use Rattle.command_words.specs.Requests.{wanted_of}
 use Rattle.command_words.specs.declared.drawn.Drawn.{Drawn}
 use Rattle.command_words.specs.declared.request.Request.{Request}
@@ -12,8 +12,8 @@ use Rattle.command_words.specs.declared.work.Work.TheVariants.{Find, Seeds, Orde
 use Rattle.journal.specs.Logs.{Log}
 use Rattle.linx_commands.specs.Causes.{is_of_writing}
 use Rattle.linx_commands.specs.Checks.{IsCheckEnd, IsLegalInput, IsRefusedInput, check_status}
-use Rattle.linx_commands.specs.Printed.{IsChartEnd, IsOrderEnd, IsOrdered, IsUnreadText}
-use Rattle.linx_commands.specs.Printed.{SaysOf}
+use Rattle.linx_commands.specs.Charts.{IsChartEnd, chart_by, chart_status}
+use Rattle.linx_commands.specs.Printed.{IsOrderEnd, IsOrdered, IsUnreadText}
 use Rattle.linx_commands.specs.Replays.{IsReplayEnd, IsSame, IsUnlike, IsUnlikeBy, replay_status}
 use Rattle.linx_commands.specs.Runs.{IsEmptyLog}
 use Rattle.linx_commands.specs.Statuses.{is_of_whole, is_silent}
@@ -25,6 +25,8 @@ use Rattle.linx_commands.specs.declared.outcome.Status.TheVariants.{JournalFull,
 use Rattle.linx_commands.specs.declared.outcome.Status.TheVariants.{Script, Text, Unlike, Illegal}
 use Rattle.linx_commands.specs.declared.outcome.Unlike.{Unlike as UnlikeBy}
 use Rattle.linx_commands.specs.declared.outcome.Unlike.TheVariants.{Line, Filled}
+use Rattle.text_charts.specs.declared.stop.ChartStop.{ChartStop}
+use Rattle.text_charts.specs.declared.stop.ChartStop.TheVariants as chart_stops
 use Rattle.text_check.specs.declared.stop.CheckStop.{CheckStop}
 use Rattle.text_check.specs.declared.stop.CheckStop.TheVariants as check_stops
 use Rattle.text_replay.specs.declared.stop.ReplayStop.{ReplayStop}
@@ -44,23 +46,18 @@ short_order bytes (Text fault) text ended whole = cc
 short_order bytes NoMemory text ended whole = cc
 short_order bytes _ text ended whole = absurd ended
 
-unread_part : (bytes : List ℕ) (status : Status) → IsUnreadText bytes status
-    → is_of_whole status ≡ true → ⊥
-unread_part bytes (Text fault) unread whole = cc
-unread_part bytes NoMemory unread whole = cc
-unread_part bytes _ unread whole = unread
-
 -- where the chart of a text is whole, so is the text
-short_chart : (drawn : Drawn) (bytes : List ℕ) (status : Status) (text : List ℕ)
-    → IsChartEnd drawn bytes status text → is_of_whole status ≡ true → length bytes < 268435457
-short_chart drawn bytes status text (inl unread) whole =
-    absurd (unread_part bytes status unread whole)
-short_chart drawn bytes status text (inr is) whole =
-    let within : length bytes ≤ 268435456 = is.spelled.short in omega (arith, within)
-
-fault_of_chart : (drawn : Drawn) (bytes text : List ℕ) → IsChartEnd drawn bytes ReadFault text → ⊥
-fault_of_chart drawn bytes text (inl unread) = unread
-fault_of_chart drawn bytes text (inr is) = is.says
+short_chart : (drawn : Drawn) (listed : Option (List ℕ)) (bytes : List ℕ) (status : Status)
+    (text : List ℕ) → IsChartEnd drawn listed bytes status text → is_of_whole status ≡ true
+    → length bytes < 268435457
+short_chart drawn listed bytes Done text ended whole =
+    let within : length bytes ≤ 268435456 = ended.short in omega (arith, within)
+short_chart drawn listed bytes WriteFault text ended whole =
+    let within : length bytes ≤ 268435456 = ended.short in omega (arith, within)
+short_chart drawn listed bytes (Script line fault) text ended whole = cc
+short_chart drawn listed bytes (Text fault) text ended whole = cc
+short_chart drawn listed bytes NoMemory text ended whole = cc
+short_chart drawn listed bytes _ text ended whole = absurd ended.says
 
 -- where the replay of a text is whole, so is the text
 short_unlike : (bytes : List ℕ) (unlike : UnlikeBy) → IsUnlikeBy bytes unlike
@@ -102,8 +99,8 @@ short : (work : Work) (texts : List (List ℕ)) (bytes : List ℕ) (status : Sta
     → length bytes < most_of work
 short (Find search) texts bytes status text log ended whole =
     short_search search (wanted_of search texts) bytes status text log ended whole
-short (Seeds range) texts bytes status text log ended whole =
-    short_report range bytes status text ended.ended whole
+short (Seeds asked) texts bytes status text log ended whole =
+    short_report asked.range bytes status text ended.ended whole
 short Order texts bytes status text log ended whole =
     short_order bytes status text ended.ended whole
 short Replay texts bytes status text log ended whole =
@@ -111,16 +108,16 @@ short Replay texts bytes status text log ended whole =
 short Check texts bytes status text log ended whole =
     short_check bytes status text ended.ended whole
 short (Chart drawn) texts bytes status text log ended whole =
-    short_chart drawn bytes status text ended.ended whole
+    short_chart drawn (makers_named drawn texts) bytes status text ended.ended whole
 
 fault_of_none : (work : Work) (texts : List (List ℕ)) (bytes text : List ℕ) (log : Log)
     → IsEndOf work texts bytes ReadFault text log → ⊥
 fault_of_none (Find search) texts bytes text log ended = ended
-fault_of_none (Seeds range) texts bytes text log ended = ended.ended
+fault_of_none (Seeds asked) texts bytes text log ended = ended.ended
 fault_of_none Order texts bytes text log ended = ended.ended
 fault_of_none Replay texts bytes text log ended = ended.ended
 fault_of_none Check texts bytes text log ended = ended.ended
-fault_of_none (Chart drawn) texts bytes text log ended = fault_of_chart drawn bytes text ended.ended
+fault_of_none (Chart drawn) texts bytes text log ended = ended.ended.says
 
 -- a work with bytes that were read ends by no fault of their source
 no_fault : (work : Work) (texts : List (List ℕ)) (bytes : List ℕ) (status : Status)
@@ -272,13 +269,43 @@ silent_check check_stops.NoMemory = refl
 
 -- ---- the chart of a printed text
 
--- the picture went out, or was to
-pub says_written : (chart : Result (List ℕ) DrawError) (status : Status) (text : List ℕ)
-    → is_of_writing status ≡ true → chart ≡ Ok text → SaysOf chart status text
-says_written chart Done text writes is = is
-says_written chart WriteFault text writes is = is
-says_written chart NoMemory text writes is = tt
-says_written chart _ text writes is = cc
+-- it went out, or was to
+pub chart_written : (drawn : Drawn) (listed : Option (List ℕ)) (bytes : List ℕ) (status : Status)
+    (text : List ℕ) → is_of_writing status ≡ true → length bytes ≤ 268435456
+    → chart_by drawn listed bytes ≡ Ok text → IsChartEnd drawn listed bytes status text
+chart_written drawn listed bytes Done text writes short is = record { short = short; says = is }
+chart_written drawn listed bytes WriteFault text writes short is =
+    record { short = short; says = is }
+chart_written drawn listed bytes NoMemory text writes short is =
+    record { short = short; says = tt }
+chart_written drawn listed bytes _ text writes short is = cc
+
+-- there is none
+pub chart_stopped : (drawn : Drawn) (listed : Option (List ℕ)) (bytes : List ℕ) (stop : ChartStop)
+    (text : List ℕ) → length bytes ≤ 268435456
+    → (stop ≢ chart_stops.NoMemory → chart_by drawn listed bytes ≡ Err stop)
+    → IsChartEnd drawn listed bytes (chart_status stop) text
+chart_stopped drawn listed bytes (chart_stops.Bad line fault) text short is =
+    record { short = short; says = is (λ no. cc) }
+chart_stopped drawn listed bytes (chart_stops.Unread line) text short is =
+    record { short = short; says = is (λ no. cc) }
+chart_stopped drawn listed bytes (chart_stops.Full line) text short is =
+    record { short = short; says = is (λ no. cc) }
+chart_stopped drawn listed bytes chart_stops.TooLong text short is =
+    record { short = short; says = is (λ no. cc) }
+chart_stopped drawn listed bytes chart_stops.TooWide text short is =
+    record { short = short; says = is (λ no. cc) }
+chart_stopped drawn listed bytes chart_stops.NoMemory text short is =
+    record { short = short; says = tt }
+
+-- and nothing is written then
+pub silent_chart : (stop : ChartStop) → is_silent (chart_status stop) ≡ true
+silent_chart (chart_stops.Bad line fault) = refl
+silent_chart (chart_stops.Unread line) = refl
+silent_chart (chart_stops.Full line) = refl
+silent_chart chart_stops.TooLong = refl
+silent_chart chart_stops.TooWide = refl
+silent_chart chart_stops.NoMemory = refl
 
 -- ---- where none is asked for
 

@@ -12,6 +12,8 @@ use Rattle.journal.specs.declared.effect.Step.{Step}
 use Rattle.journal.specs.Logs.{Log, step_limit}
 use Rattle.journal_check.specs.Words.{rule_of, word_of}
 use Rattle.journal_check.specs.declared.law.Fault.{Fault as LawFault}
+use Rattle.journal_text.specs.Values.{position_text}
+use Rattle.linx_base.specs.declared.identity.ItemAt.{ItemAt}
 use Rattle.linx_files.specs.declared.make_fault.MakeFault.{MakeFault}
 use Rattle.linx_files.specs.declared.make_fault.MakeFault.TheVariants as makes
 use Rattle.linx_outside.specs.declared.files.OpenFault.{OpenFault}
@@ -66,7 +68,7 @@ phrase_of says.TextLine = codes "text line "
 phrase_of says.NoTextLine = codes ": no line of a printed text"
 phrase_of says.TooMuchNoted = codes ": more signals than a journal holds"
 phrase_of says.TextTooLong = codes "text longer than 268435456 bytes"
-phrase_of says.TooManyRows = codes "more than 6000 rows: draw steps A B"
+phrase_of says.TooManyRows = codes "more than 6000 rows: map, fold or steps"
 phrase_of says.TooManyLanes = codes "more than 64 nodes, links or actors"
 phrase_of says.NoTextBehind = codes "no line `text` behind the script"
 phrase_of says.AnotherLine = codes ": the run has another line here"
@@ -74,6 +76,7 @@ phrase_of says.TurnsFill = codes "the turns of the text fill the journal"
 phrase_of says.AnotherLog = codes ": the steps tell another log"
 phrase_of says.StepAt = codes "step "
 phrase_of says.BreaksLaw = codes " breaks the law "
+phrase_of says.EarliestIs = codes "; here the earliest is "
 
 -- the text at a place, from 0; none where there are fewer
 abbrev pub text_at : List (List ℕ) → ℕ → List ℕ
@@ -141,10 +144,19 @@ unlike_text (Line line) = phrase_of says.TextLine ++ decimal line ++ phrase_of s
 unlike_text Filled = phrase_of says.TurnsFill
 
 -- which step isn't legal, and what the law asks that it breaks
-unfoldable pub illegal_text : LawFault → List ℕ
-illegal_text fault =
+unfoldable pub law_text : LawFault → List ℕ
+law_text fault =
     phrase_of says.StepAt ++ decimal fault.step ++ phrase_of says.BreaksLaw ++ word_of fault.law
     ++ phrase_of says.Colon ++ rule_of fault.law
+
+-- the position of the item that a receive was to take; nothing where there is none
+unfoldable pub earliest_text : Option ItemAt → List ℕ
+earliest_text (Some at) = phrase_of says.EarliestIs ++ position_text at
+earliest_text None = []
+
+-- the law that a step breaks, and the item that it was to take
+unfoldable pub illegal_text : LawFault → List ℕ
+illegal_text fault = law_text fault ++ earliest_text fault.earliest
 
 -- where a run without memory stopped; nothing where it made no step
 unfoldable pub stop_text : List Step → List ℕ

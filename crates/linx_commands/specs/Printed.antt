@@ -1,15 +1,6 @@
 -- How what is done with a printed text ends.
-use Rattle.std.specs.Prelude.{ℕ, ◌≡◌, ◌+◌, ◌≤◌, ◌<◌, ◌⊎◌, Bool, true, false, List, length, Some, None}
-use Rattle.std.specs.Prelude.{Result, Ok, Err, option_map}
-use Rattle.chart_drawing.specs.declared.drawing.DrawError.{DrawError}
-use Rattle.chart_drawing.specs.declared.drawing.DrawError.TheVariants as draws
-use Rattle.chart_drawing.specs.declared.view.Steps.{Steps}
-use Rattle.chart_drawing.specs.declared.view.View.{View}
-use Rattle.chart_page.specs.Pages.{page_round}
-use Rattle.command_words.specs.declared.drawn.Drawn.{Drawn}
-use Rattle.command_words.specs.declared.range.Range.{Range}
+use Rattle.std.specs.Prelude.{ℕ, ◌≡◌, ◌≤◌, ◌<◌, List, length, Some, None, Ok, Err}
 use Rattle.journal.specs.Logs.{Log}
-use Rattle.journal_charts.specs.Charts.{svg_of}
 use Rattle.journal_read.specs.Bounds.{full_in}
 use Rattle.journal_read.specs.Reading.{read_in}
 use Rattle.text_names.specs.Numbering.{names_in}
@@ -19,7 +10,7 @@ use Rattle.linx_commands.specs.Runs.{IsEmptyLog}
 use Rattle.linx_commands.specs.declared.outcome.Status.{Status}
 use Rattle.linx_commands.specs.declared.outcome.Status.TheVariants.{Done, WriteFault, NoMemory, Text}
 use Rattle.linx_commands.specs.declared.outcome.TextFault.{TextFault}
-use Rattle.linx_commands.specs.declared.outcome.TextFault.TheVariants.{Bad, Full, Long, Rows, Lanes}
+use Rattle.linx_commands.specs.declared.outcome.TextFault.TheVariants.{Bad, Full, Long}
 
 -- the most bytes that a printed text may have
 abbrev pub text_most : ℕ
@@ -70,58 +61,6 @@ IsOrderEnd bytes WriteFault text = IsOrdered bytes text
 IsOrderEnd bytes (Text fault) text = IsFaultOf bytes fault
 IsOrderEnd bytes NoMemory text = Unit {0}
 IsOrderEnd bytes _ text = ⊥
-
--- what a status says of a chart, or of why there is none, and of the text that is written
-abbrev pub SaysOf : Result (List ℕ) DrawError → Status → List ℕ → Type 0
-SaysOf chart Done text = chart ≡ Ok text
-SaysOf chart WriteFault text = chart ≡ Ok text
-SaysOf chart (Text Rows) text = chart ≡ Err draws.TooLong
-SaysOf chart (Text Lanes) text = chart ≡ Err draws.TooWide
-SaysOf chart NoMemory text = Unit {0}
-SaysOf chart _ text = ⊥
-
--- the steps of a range
-abbrev pub steps_in : Range → Steps
-steps_in range = record { first = range.first; last = range.first + range.more }
-
--- what of a chart is asked for
-abbrev pub view_of : Drawn → View
-view_of drawn = record {
-  plain = drawn.plain;
-  fold = false;
-  steps = option_map steps_in drawn.steps;
-  of = None;
-}
-
--- a picture as it is, or the page round it
-abbrev pub paged : Bool → Result (List ℕ) DrawError → Result (List ℕ) DrawError
-paged false picture = picture
-paged true (Ok svg) = Ok (page_round svg)
-paged true (Err e) = Err e
-
--- THE CHART THAT IS ASKED FOR, of a journal beside its text: a picture, or a page with one
-abbrev pub chart_by : Drawn → List ℕ → Log → Result (List ℕ) DrawError
-chart_by drawn bytes log =
-    paged drawn.page (svg_of log.names bytes log.steps (view_of drawn))
-
--- what a status says of the chart of a printed text's journal, and of the text that is written
-pub record IsDrawn (drawn : Drawn) (bytes : List ℕ) (status : Status) (text : List ℕ)
-    : Type 0 where
-  pub log : Log
-  pub spelled : IsTextOf bytes log
-  pub says : SaysOf (chart_by drawn bytes log) status text
-
--- WHAT A STATUS SAYS of the chart of the printed text that these bytes are: that they are none, or
--- what became of the chart
-abbrev pub IsChartEnd : Drawn → List ℕ → Status → List ℕ → Type 0
-IsChartEnd drawn bytes status text = IsUnreadText bytes status ⊎ IsDrawn drawn bytes status text
-
--- a chart, or why there is none, and what was written of it
-pub record IsWrittenOf (chart : Result (List ℕ) DrawError) (writes : List ℕ → Type 0)
-    (status : Status) : Type 0 where
-  pub text : List ℕ
-  pub says : SaysOf chart status text
-  pub written : writes text
 
 -- a work with a text ended with such a status and such a text, and with an empty journal
 pub record IsTextDone (ends : Status → List ℕ → Type 0) (status : Status) (text : List ℕ) (log : Log)

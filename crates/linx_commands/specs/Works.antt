@@ -1,6 +1,7 @@
 -- What is done with what is read: a source is read to its end, and a text is written.
-use Rattle.std.specs.Prelude.{ℕ, ◌≡◌, ◌⊎◌, List, take, Option, Some, None, IfSome}
-use Rattle.command_words.specs.Requests.{wanted_of}
+use Rattle.std.specs.Prelude.{ℕ, ◌≡◌, ◌⊎◌, Bool, false, List, take, Option, Some, None, IfSome}
+use Rattle.command_words.specs.Charts.{makers_named}
+use Rattle.command_words.specs.Requests.{tells_progress, wanted_of}
 use Rattle.command_words.specs.declared.request.Request.{Request}
 use Rattle.command_words.specs.declared.request.Request.TheVariants as requests
 use Rattle.command_words.specs.declared.work.Work.{Work}
@@ -8,7 +9,8 @@ use Rattle.command_words.specs.declared.work.Work.TheVariants.{Find, Seeds, Orde
 use Rattle.journal.specs.Logs.{Log}
 use Rattle.linx_outside.specs.declared.files.OpenFault.{OpenFault}
 use Rattle.linx_commands.specs.Checks.{IsCheckEnd}
-use Rattle.linx_commands.specs.Printed.{IsChartEnd, IsOrderEnd, IsTextDone}
+use Rattle.linx_commands.specs.Charts.{IsChartEnd}
+use Rattle.linx_commands.specs.Printed.{IsOrderEnd, IsTextDone}
 use Rattle.linx_commands.specs.Opened.{IsUnopened}
 use Rattle.linx_commands.specs.Replays.{IsReplayEnd}
 use Rattle.linx_commands.specs.Runs.{IsEmptyLog, IsLegalSomehow}
@@ -20,7 +22,7 @@ use Rattle.linx_commands.specs.declared.outcome.Status.TheVariants.{ReadFault, N
 -- the most bytes that are read: one more than a script may have, or a printed text
 abbrev pub most_of : Work → ℕ
 most_of (Find search) = read_most
-most_of (Seeds range) = read_most
+most_of (Seeds asked) = read_most
 most_of _ = 268435457
 
 -- HOW A WORK ENDS: what each status says of the bytes that were read, of the text that is written and
@@ -28,13 +30,13 @@ most_of _ = 268435457
 abbrev pub IsEndOf : Work → List (List ℕ) → List ℕ → Status → List ℕ → Log → Type 0
 IsEndOf (Find search) texts bytes status text log =
     IsSearchEnd search (wanted_of search texts) bytes status text log
-IsEndOf (Seeds range) texts bytes status text log =
-    IsTextDone (IsSeedsEnd range bytes) status text log
+IsEndOf (Seeds asked) texts bytes status text log =
+    IsTextDone (IsSeedsEnd asked.range bytes) status text log
 IsEndOf Order texts bytes status text log = IsTextDone (IsOrderEnd bytes) status text log
 IsEndOf Replay texts bytes status text log = IsTextDone (IsReplayEnd bytes) status text log
 IsEndOf Check texts bytes status text log = IsTextDone (IsCheckEnd bytes) status text log
 IsEndOf (Chart drawn) texts bytes status text log =
-    IsTextDone (IsChartEnd drawn bytes) status text log
+    IsTextDone (IsChartEnd drawn (makers_named drawn texts) bytes) status text log
 
 -- a work ended so, and this was written
 pub record Ends (ended : Status → List ℕ → Log → Type 0) (writes : List ℕ → Type 0)
@@ -93,3 +95,8 @@ IsWorkedFrom work texts (Some name) told unread reads of_file refuses silent rea
 abbrev pub IfWork : Option Request → (Work → Type 0) → Type 0
 IfWork (Some (requests.Work work)) holds = holds work
 IfWork _ holds = Unit {0}
+
+-- the words ask for many runs, and to be told how far they have come
+abbrev pub asks_progress : Option Request → Bool
+asks_progress (Some (requests.Work work)) = tells_progress work
+asks_progress _ = false

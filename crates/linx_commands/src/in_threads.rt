@@ -1,7 +1,7 @@
 //! What takes threads: a run with a thread for each actor and each link, and a work with what is
 //! read. What doesn't is `alone`'s.
 
-ghost use Rattle.std.specs.Prelude.{◌≡◌, IfOk, IfSome, IfNone, None, map, option_map, string_bytes};
+ghost use Rattle.std.specs.Prelude.{◌≡◌, false, IfOk, IfSome, IfNone, None, map, option_map, string_bytes};
 ghost use Rattle.journal_text.specs.Text.{text_of};
 ghost use Rattle.work_gen.specs.Generated.{generated};
 ghost use Rattle.command_words.specs.Requests.{file_of, journal_of, request_of};
@@ -17,7 +17,7 @@ ghost use Rattle.linx_commands.specs.Programs.{IfEcho, IfPlay, IfServe, IfShow, 
 ghost use Rattle.linx_commands.specs.Programs.{IsPlayedOfFile, IsShown, ReadsFile, asked_in};
 ghost use Rattle.linx_commands.specs.Keeping.{IsGatewayFrom};
 ghost use Rattle.linx_commands.specs.Sessions.{IsGatewayOf, IsSession};
-ghost use Rattle.linx_commands.specs.Works.{IfWork, IsWorkedFrom, most_of};
+ghost use Rattle.linx_commands.specs.Works.{IfWork, IsWorkedFrom, asks_progress, most_of};
 
 use crate::outcome::{Outcome, Status};
 use crate::serving::{InThreads, Left, alone, conclude, read_script, unstarted};
@@ -27,6 +27,7 @@ use linx_base::NoMemory;
 use linx_files::NewFile;
 use linx_outside::{Files, Gate, Sink, Source};
 use order_lines::Ordered;
+use run_progress::Progress;
 use script_lang::Script;
 use std::alloc::Global;
 use std::sync::Wait;
@@ -187,7 +188,15 @@ fn play<R: Threads + Wait + Sync, G: Gate + Sync, F: Files, S: Source, K: Sink>(
 }
 
 /// Does what the words of the command line ask for.
-pub fn run<R: Threads + Wait + Sync, G: Gate + Sync, F: Files, N: NewFile, S: Source, K: Sink>(
+pub fn run<
+    R: Threads + Wait + Sync,
+    G: Gate + Sync,
+    F: Files,
+    N: NewFile,
+    S: Source,
+    K: Sink,
+    P: Progress,
+>(
     rt: &R,
     alloc: Global,
     words: &[String],
@@ -195,6 +204,7 @@ pub fn run<R: Threads + Wait + Sync, G: Gate + Sync, F: Files, N: NewFile, S: So
     new_file: &mut N,
     script: &mut S,
     out: &mut K,
+    progress: &mut P,
     gate: &G,
 ) -> Outcome
     // Of words that ask for nothing.
@@ -236,6 +246,9 @@ pub fn run<R: Threads + Wait + Sync, G: Gate + Sync, F: Files, N: NewFile, S: So
         result.status written)
         result.status result.journal.log) }
 
+    // How far many runs have come is told nowhere but where the words ask for it.
+    ensures untold { asks_progress (request_of words.now) ≡ false → progress.new ≡ progress.old }
+
     // Of an echo over the streams.
     ensures echoed { IfEcho (request_of words.now) (IsSession S.left S.faults S.last_count
         S.is_faultless K.held K.faults K.last_count script.old script.new out.old out.new
@@ -261,6 +274,7 @@ pub fn run<R: Threads + Wait + Sync, G: Gate + Sync, F: Files, N: NewFile, S: So
             files,
             script,
             out,
+            progress,
         ),
         Err(Left::Play(threads)) => play(
             rt,

@@ -12,6 +12,7 @@
 //! result can't end in any other way.
 #![tactic(auto)]
 
+mod charts;
 mod checking;
 mod in_threads;
 mod keeping;

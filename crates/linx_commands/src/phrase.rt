@@ -85,6 +85,8 @@ pub enum Phrase {
     StepAt,
     /// The law follows that a step breaks.
     BreaksLaw,
+    /// The position of the item follows that a receive was to take.
+    EarliestIs,
 }
 
 impl Phrase {
@@ -127,7 +129,7 @@ impl Phrase {
             Phrase::NoTextLine => ": no line of a printed text",
             Phrase::TooMuchNoted => ": more signals than a journal holds",
             Phrase::TextTooLong => "text longer than 268435456 bytes",
-            Phrase::TooManyRows => "more than 6000 rows: draw steps A B",
+            Phrase::TooManyRows => "more than 6000 rows: map, fold or steps",
             Phrase::TooManyLanes => "more than 64 nodes, links or actors",
             Phrase::NoTextBehind => "no line `text` behind the script",
             Phrase::AnotherLine => ": the run has another line here",
@@ -135,6 +137,7 @@ impl Phrase {
             Phrase::AnotherLog => ": the steps tell another log",
             Phrase::StepAt => "step ",
             Phrase::BreaksLaw => " breaks the law ",
+            Phrase::EarliestIs => "; here the earliest is ",
         }
     }
 }

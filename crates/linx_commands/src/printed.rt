@@ -1,22 +1,16 @@
-//! What is done with a printed text: its order is written, or a chart of it.
+//! `order`: the order of a printed text.
 
-ghost use Rattle.std.specs.Prelude.{◌≡◌, ◌≢◌, true, Ok, Err, IfErr, IfOk};
-ghost use Rattle.chart_drawing.specs.declared.drawing.DrawError.TheVariants.{NoMemory as OutOfMemory};
+ghost use Rattle.std.specs.Prelude.{◌≡◌, true, IfErr, IfOk};
 ghost use Rattle.turn_lines.specs.Text.{order_text};
 ghost use Rattle.turn_lines.specs.Turns.{turn_makers};
 ghost use Rattle.linx_commands.specs.Causes.{is_of_writing};
-ghost use Rattle.linx_commands.specs.Printed.{IsChartEnd, IsOrderEnd, IsTextDone, IsWrittenOf};
-ghost use Rattle.linx_commands.specs.Printed.{IsTextOf, IsUnreadText, chart_by, steps_in, view_of};
+ghost use Rattle.linx_commands.specs.Printed.{IsOrderEnd, IsTextDone, IsTextOf, IsUnreadText};
 ghost use Rattle.linx_commands.specs.Streams.{Writes};
 ghost use Rattle.linx_commands.specs.Works.{Ends};
 
 use crate::outcome::{Outcome, Status, TextFault};
 use crate::serving::{unstarted, write_text};
-use chart_drawing::{DrawError, Steps, View};
-use chart_page::page_of;
-use command_words::{Drawn, Range};
 use journal::Journal;
-use journal_charts::chart_of;
 use journal_read::Unread;
 use linx_base::NoMemory;
 use linx_outside::Sink;
@@ -64,85 +58,6 @@ pub(crate) fn order<K: Sink>(alloc: Global, bytes: &[u8], out: &mut K) -> Outcom
 {
     match read_text(alloc, bytes) {
         Ok(journal) => unstarted(alloc, write_order(alloc, &journal, out)),
-        Err(status) => unstarted(alloc, status),
-    }
-}
-
-/// The steps of a range.
-fn steps_in(range: Range) -> Steps
-    ensures { result ≡ steps_in range }
-{
-    let first = u64::from(range.first);
-    Steps {
-        first,
-        last: first + u64::from(range.more),
-    }
-}
-
-/// What of a chart is asked for.
-fn view_of(drawn: Drawn) -> View
-    ensures { result ≡ view_of drawn }
-{
-    View {
-        plain: drawn.plain,
-        fold: false,
-        steps: match drawn.steps {
-            Some(range) => Some(steps_in(range)),
-            None => None,
-        },
-        of: None,
-    }
-}
-
-/// The chart of a journal beside its text: a picture, or a page with one.
-fn chart_by(
-    alloc: Global,
-    drawn: Drawn,
-    bytes: &[u8],
-    journal: &Journal,
-) -> Result<Vec<u8>, DrawError>
-    ensures drawn { IfOk result (λ text.
-        chart_by drawn bytes.now journal.now.log ≡ Ok text.items) }
-    ensures refused { IfErr result (λ e. e ≢ OutOfMemory
-        → chart_by drawn bytes.now journal.now.log ≡ Err e) }
-{
-    let svg = chart_of(alloc, bytes, journal, view_of(drawn))?;
-    if drawn.page {
-        Ok(page_of(alloc, svg.as_slice())?)
-    } else {
-        Ok(svg)
-    }
-}
-
-/// The chart of a journal goes to the sink, beside whose text it is drawn.
-fn write_chart<K: Sink>(
-    alloc: Global,
-    drawn: Drawn,
-    bytes: &[u8],
-    journal: &Journal,
-    out: &mut K,
-) -> Status
-    ensures { IsWrittenOf (chart_by drawn bytes.now journal.now.log)
-        (λ written. Writes K.held K.faults K.last_count K.can_take out.old out.new result written)
-        result }
-{
-    match chart_by(alloc, drawn, bytes, journal) {
-        Ok(text) => write_text(text.as_slice(), out),
-        Err(DrawError::TooLong) => Status::Text(TextFault::Rows),
-        Err(DrawError::TooWide) => Status::Text(TextFault::Lanes),
-        Err(DrawError::NoMemory) => Status::NoMemory,
-    }
-}
-
-/// The chart of a printed text goes to the sink.
-pub(crate) fn chart<K: Sink>(alloc: Global, drawn: Drawn, bytes: &[u8], out: &mut K) -> Outcome
-    ensures { Ends (IsTextDone (IsChartEnd drawn bytes.now))
-        (λ written. Writes K.held K.faults K.last_count K.can_take out.old out.new
-        result.status written)
-        result.status result.journal.log }
-{
-    match read_text(alloc, bytes) {
-        Ok(journal) => unstarted(alloc, write_chart(alloc, drawn, bytes, &journal, out)),
         Err(status) => unstarted(alloc, status),
     }
 }

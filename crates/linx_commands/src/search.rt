@@ -1,6 +1,6 @@
 //! `find`: a search of the runs of some seeds.
 
-ghost use Rattle.std.specs.Prelude.{◌≡◌, true, ℕ, List, map, string_bytes};
+ghost use Rattle.std.specs.Prelude.{◌≡◌, true, false, IfErr, IfOk, ℕ, List, map, string_bytes};
 ghost use Rattle.command_words.specs.declared.search.Search.{Search as Searched};
 ghost use Rattle.seed_search.specs.Searches.{IsAnswer, IsStop, found_text};
 ghost use Rattle.linx_commands.specs.Causes.{is_of_writing};
@@ -15,6 +15,7 @@ use crate::serving::{status_of_stop, unstarted, write_text};
 use command_words::Search;
 use linx_base::NoMemory;
 use linx_outside::Sink;
+use run_progress::{Progress, Untold};
 use seed_runs::RunStop;
 use seed_search::Found;
 use std::alloc::Global;
@@ -65,27 +66,53 @@ fn halt(alloc: Global, stop: RunStop) -> Outcome
     }
 }
 
-/// Searches the runs of the script that bytes spell, as many at a time as there are processors.
-pub(crate) fn find<R: Threads + Sync, K: Sink>(
+/// What the runs of a search show, as many at a time as there are processors. How far they have come is
+/// told where the search asks for it.
+fn searched<R: Threads + Sync, P: Progress>(
+    rt: &R,
+    alloc: Global,
+    search: Search,
+    wanted: &[String],
+    bytes: &[u8],
+    progress: &mut P,
+) -> Result<Option<Found>, RunStop>
+    ensures answer { IfOk result (λ found. IsAnswer bytes.now search.first search.more search.sought
+        (map string_bytes wanted.now) found) }
+    ensures stopped { IfErr result (λ stop. IsStop bytes.now search.first search.more search.sought
+        (map string_bytes wanted.now) stop) }
+    ensures untold { search.progress ≡ false → progress.new ≡ progress.old }
+{
+    let Search {
+        first,
+        more,
+        sought,
+        progress: tells,
+        ..
+    } = search;
+    if tells {
+        seed_threads::find(rt, alloc, bytes, first, more, sought, wanted, progress)
+    } else {
+        seed_threads::find(rt, alloc, bytes, first, more, sought, wanted, &mut Untold)
+    }
+}
+
+/// What a search finds in the runs of the script that bytes spell goes to the sink.
+pub(crate) fn find<R: Threads + Sync, K: Sink, P: Progress>(
     rt: &R,
     alloc: Global,
     search: Search,
     wanted: &[String],
     bytes: &[u8],
     out: &mut K,
+    progress: &mut P,
 ) -> Outcome
-    ensures { Ends (IsSearchEnd search (map string_bytes wanted.now) bytes.now)
+    ensures found { Ends (IsSearchEnd search (map string_bytes wanted.now) bytes.now)
         (λ written. Writes K.held K.faults K.last_count K.can_take out.old out.new
         result.status written)
         result.status result.journal.log }
+    ensures untold { search.progress ≡ false → progress.new ≡ progress.old }
 {
-    let Search {
-        first,
-        more,
-        sought,
-        ..
-    } = search;
-    match seed_threads::find(rt, alloc, bytes, first, more, sought, wanted) {
+    match searched(rt, alloc, search, wanted, bytes, progress) {
         Ok(found) => conclude(alloc, found, out),
         Err(stop) => halt(alloc, stop),
     }

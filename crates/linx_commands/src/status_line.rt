@@ -1,8 +1,9 @@
 //! The program's line on standard error.
 ghost use Rattle.std.specs.Prelude.{◌≡◌, ◌+◌, ◌≤◌, ◌++◌, decimal, length, map, option_map};
 ghost use Rattle.std.specs.Prelude.{string_bytes};
-ghost use Rattle.linx_commands.specs.Lines.{bad_text, full_text, hint_of, illegal_text, limit_of};
-ghost use Rattle.linx_commands.specs.Lines.{line_of};
+ghost use Rattle.journal_text.specs.Values.{position_text};
+ghost use Rattle.linx_commands.specs.Lines.{bad_text, earliest_text, full_text, hint_of};
+ghost use Rattle.linx_commands.specs.Lines.{illegal_text, law_text, limit_of, line_of};
 ghost use Rattle.linx_commands.specs.Lines.{misuse_text, phrase_of, phrase_of_fault};
 ghost use Rattle.linx_commands.specs.Lines.{file_prefix, phrase_of_unmade, stop_text};
 ghost use Rattle.linx_commands.specs.Lines.{text_at, text_by, text_fault_text, unlike_text};
@@ -12,6 +13,7 @@ use crate::phrase::Phrase;
 use command_words::{Line, Misuse, WORDS, Word, file_named, journal_named};
 use journal::Journal;
 use journal_check::Fault as LawFault;
+use linx_base::ItemAt;
 use linx_files::MakeFault;
 use linx_outside::OpenFault;
 use script_lang::Fault;
@@ -186,15 +188,50 @@ fn push_unlike(line: &mut Line, unlike: Unlike)
 }
 
 /// Which step isn't legal, and what the law asks that it breaks.
+#[tactic(auto, unfolding(crate::specs::Lines::law_text))]
+fn push_law(line: &mut Line, fault: LawFault)
+    requires room { length line.old ≤ 40 }
+    ensures text { line.new ≡ line.old ++ law_text fault }
+    ensures room { length line.new ≤ length line.old + 320 }
+{
+    line.push_numbered(Phrase::StepAt.text(), fault.step);
+    line.push_pair(Phrase::BreaksLaw.text(), fault.law.word());
+    line.push_pair(Phrase::Colon.text(), fault.law.rule());
+}
+
+/// Where an item came from: its step, and its place in that.
+#[tactic(auto, unfolding(journal_text::specs::Values::position_text))]
+fn push_position(line: &mut Line, at: ItemAt)
+    requires room { length line.old ≤ 440 }
+    ensures text { line.new ≡ line.old ++ position_text at }
+    ensures room { length line.new ≤ length line.old + 41 }
+{
+    line.push_number(at.step);
+    line.push_numbered(".", at.place);
+}
+
+/// Which item a receive was to take.
+#[tactic(auto, unfolding(crate::specs::Lines::earliest_text))]
+fn push_earliest(line: &mut Line, earliest: Option<ItemAt>)
+    requires room { length line.old ≤ 400 }
+    ensures text { line.new ≡ line.old ++ earliest_text earliest }
+    ensures room { length line.new ≤ length line.old + 81 }
+{
+    if let Some(at) = earliest {
+        line.push(Phrase::EarliestIs.text());
+        push_position(line, at);
+    }
+}
+
+/// The law that a step breaks, and the item that it was to take.
 #[tactic(auto, unfolding(crate::specs::Lines::illegal_text))]
 fn push_illegal(line: &mut Line, fault: LawFault)
     requires room { length line.old ≤ 40 }
     ensures text { line.new ≡ line.old ++ illegal_text fault }
     ensures room { length line.new ≤ length line.old + 430 }
 {
-    line.push_numbered(Phrase::StepAt.text(), fault.step);
-    line.push_pair(Phrase::BreaksLaw.text(), fault.law.word());
-    line.push_pair(Phrase::Colon.text(), fault.law.rule());
+    push_law(line, fault);
+    push_earliest(line, fault.earliest);
 }
 
 /// Where a run stopped for want of memory.

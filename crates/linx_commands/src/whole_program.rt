@@ -1,7 +1,7 @@
 //! The whole program, over what a process is given: its command line, files and streams.
 
-ghost use Rattle.std.specs.Prelude.{◌≡◌};
-ghost use Rattle.command_words.specs.Requests.{file_by, journal_by};
+ghost use Rattle.std.specs.Prelude.{◌≡◌, false};
+ghost use Rattle.command_words.specs.Requests.{file_by, journal_by, request_by};
 ghost use Rattle.linx_commands.specs.Commands.{ReadsUnder};
 ghost use Rattle.linx_commands.specs.Programs.{IsPlayedFrom, IsServed, IsToldUnread, ReadsFile};
 ghost use Rattle.linx_commands.specs.Programs.{texts_of};
@@ -9,7 +9,7 @@ ghost use Rattle.linx_commands.specs.Keeping.{IsGatewayFrom};
 ghost use Rattle.linx_commands.specs.Sessions.{IsGatewayOf, IsSession};
 ghost use Rattle.linx_commands.specs.Opened.{IsReadOfFile};
 ghost use Rattle.linx_commands.specs.Streams.{ReadsUpTo, Writes, WritesLine};
-ghost use Rattle.linx_commands.specs.Works.{IsWorkedFrom, most_of};
+ghost use Rattle.linx_commands.specs.Works.{IsWorkedFrom, asks_progress, most_of};
 ghost use Rattle.linx_commands.specs.declared.outcome.Status.TheVariants.{Done};
 
 use crate::in_threads::run;
@@ -18,13 +18,22 @@ use crate::told::{Told, tell};
 use crate::words::Words;
 use linx_files::NewFile;
 use linx_outside::{Files, OpenGate, Sink, Source};
+use run_progress::Progress;
 use std::alloc::Global;
 use std::sync::Wait;
 use std::thread::Threads;
 
 /// Does what a command line asks for, and tells how it ended. It is all that a program does whose
 /// result is a `Told`.
-pub fn program<R: Threads + Wait + Sync, F: Files, N: NewFile, S: Source, K: Sink, L: Sink>(
+pub fn program<
+    R: Threads + Wait + Sync,
+    F: Files,
+    N: NewFile,
+    S: Source,
+    K: Sink,
+    L: Sink,
+    P: Progress,
+>(
     rt: &R,
     alloc: Global,
     words: Words,
@@ -33,6 +42,7 @@ pub fn program<R: Threads + Wait + Sync, F: Files, N: NewFile, S: Source, K: Sin
     script: &mut S,
     text: &mut K,
     errors: &mut L,
+    progress: &mut P,
 ) -> Told
     // Of what the words ask for, what it reads and writes, and the line that says how it ended.
     ensures served { IsServed (texts_of words) (script.new ≡ script.old) (text.new ≡ text.old)
@@ -66,6 +76,10 @@ pub fn program<R: Threads + Wait + Sync, F: Files, N: NewFile, S: Source, K: Sin
         (λ line. WritesLine L.held L.faults L.last_count L.can_take errors.old errors.new line)
         result }
 
+    // How far many runs have come is told nowhere but where the words ask for it.
+    ensures untold { asks_progress (request_by (texts_of words)) ≡ false
+        → progress.new ≡ progress.old }
+
     // Of words that can't be had.
     ensures unread { IsToldUnread words result }
 
@@ -74,7 +88,9 @@ pub fn program<R: Threads + Wait + Sync, F: Files, N: NewFile, S: Source, K: Sin
 {
     match words {
         Words::Read(words) => {
-            let outcome = run(rt, alloc, &words, files, new_file, script, text, &OpenGate);
+            let outcome = run(
+                rt, alloc, &words, files, new_file, script, text, progress, &OpenGate,
+            );
             tell(&words, &outcome, errors)
         }
         Words::Unread(why) => tell(&[], &unstarted(alloc, why.status()), errors),

@@ -7,6 +7,7 @@ use case_rows::{Given, Pace, Row};
 use linx_commands::program;
 use linx_files::MemNewFile;
 use linx_outside::{MemFile, MemSink, MemSource};
+use run_progress::Untold;
 use std::alloc::Global;
 use std::process::{ExitCode, Termination};
 use std::sync::Wait;
@@ -84,6 +85,7 @@ fn left_by<R: Threads + Wait + Sync + Eprint>(
         &mut source,
         &mut text,
         &mut errors,
+        &mut Untold,
     );
     let exit = told.report(rt);
     Ok(Left { exit, text, errors })

@@ -4,6 +4,7 @@
 use linx_commands::{Told, Words, program};
 use linx_files::SystemNewFile;
 use linx_outside::{ReadFrom, SystemFiles, WriteTo};
+use run_progress::Untold;
 
 fn main(rt: HostRuntime) -> Told {
     let words = Words::of(&rt, rt.alloc());
@@ -21,5 +22,6 @@ fn main(rt: HostRuntime) -> Told {
         &mut script,
         &mut text,
         &mut errors,
+        &mut Untold,
     )
 }

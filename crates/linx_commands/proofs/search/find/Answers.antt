@@ -2,13 +2,13 @@ use Rattle.std.proofs.Common.{[], map, string_bytes}
 use Rattle.linx_commands.proofs.Working.{silent_undone, silent_unfailed, writes_none}
 use Rattle.linx_commands.proofs.search.find.Goals as goal
 
-pub returns-in-Ok : goal.returns-in-Ok
-returns-in-Ok g c =
+pub returns-in-Ok-clause-found : goal.returns-in-Ok-clause-found
+returns-in-Ok-clause-found g c =
     c.conclude.ensures c.args.search (map string_bytes c.args.wanted.now) c.args.bytes.now
     c.in-Ok.ensures.answer
 
-pub returns-in-Err : goal.returns-in-Err
-returns-in-Err g c =
+pub returns-in-Err-clause-found : goal.returns-in-Err-clause-found
+returns-in-Err-clause-found g c =
     let wanted = map string_bytes c.args.wanted.now in
     let silent = c.halt.ensures.silent in
     let status = c.halt.result.status in

@@ -6,11 +6,11 @@ use Rattle.linx_commands.proofs.Searching.{report_unread, report_written, silent
 use Rattle.linx_commands.proofs.Working.{silent_undone, silent_unfailed, writes_none}
 use Rattle.linx_commands.proofs.seeds.report.Goals as goal
 
-pub returns-in-Ok : goal.returns-in-Ok
-returns-in-Ok g c = record {
+pub returns-in-Ok-clause-reported : goal.returns-in-Ok-clause-reported
+returns-in-Ok-clause-reported g c = record {
   text = c.in-Ok.text.items;
   is = record {
-    ended = rw c.unstarted.ensures.status (report_written c.args.range c.args.bytes.now
+    ended = rw c.unstarted.ensures.status (report_written c.args.asked.range c.args.bytes.now
         c.write_text.result c.in-Ok.text.items c.write_text.ensures.kinds c.in-Ok.ensures.report);
     empty = c.unstarted.ensures.empty;
   };
@@ -18,8 +18,8 @@ returns-in-Ok g c = record {
   legal = c.unstarted.ensures.legal;
 }
 
-pub returns-in-Err : goal.returns-in-Err
-returns-in-Err g c =
+pub returns-in-Err-clause-reported : goal.returns-in-Err-clause-reported
+returns-in-Err-clause-reported g c =
     let error = c.in-Err.error in
     let status = script_status error in
     let silent = silent_unread error in
@@ -27,7 +27,7 @@ returns-in-Err g c =
       text = [];
       is = record {
         ended = rw c.unstarted-in-Err.ensures.status (rw c.status_of_script.ensures
-            (report_unread c.args.range c.args.bytes.now error [] c.in-Err.ensures.bad));
+            (report_unread c.args.asked.range c.args.bytes.now error [] c.in-Err.ensures.bad));
         empty = c.unstarted-in-Err.ensures.empty;
       };
       written = rw c.unstarted-in-Err.ensures.status (rw c.status_of_script.ensures

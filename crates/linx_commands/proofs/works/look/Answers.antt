@@ -1,10 +1,12 @@
 use Rattle.std.proofs.Common.{map, string_bytes, subst}
+use Rattle.linx_commands.specs.Charts.{IsChartEnd}
+use Rattle.linx_commands.specs.Printed.{IsTextDone}
 use Rattle.linx_commands.specs.Searches.{IsSearchEnd}
 use Rattle.linx_commands.proofs.works.look.Goals as goal
 
-pub returns-in-Find : goal.returns-in-Find
-returns-in-Find g c =
-    let found = c.find.ensures in
+pub returns-in-Find-clause-looked : goal.returns-in-Find-clause-looked
+returns-in-Find-clause-looked g c =
+    let found = c.find.ensures.found in
     rw c.in-Find.is (record {
       text = found.text;
       is = subst (λ wanted. IsSearchEnd c.in-Find.search wanted c.args.bytes.now
@@ -13,8 +15,8 @@ returns-in-Find g c =
       legal = found.legal;
     })
 
-pub returns-in-Order : goal.returns-in-Order
-returns-in-Order g c =
+pub returns-in-Order-clause-looked : goal.returns-in-Order-clause-looked
+returns-in-Order-clause-looked g c =
     let ordered = c.order.ensures in
     rw c.in-Order.is (record {
       text = ordered.text;
@@ -23,19 +25,20 @@ returns-in-Order g c =
       legal = ordered.legal;
     })
 
-pub returns-in-Chart : goal.returns-in-Chart
-returns-in-Chart g c =
+pub returns-in-Chart-clause-looked : goal.returns-in-Chart-clause-looked
+returns-in-Chart-clause-looked g c =
     let charted = c.chart.ensures in
     rw c.in-Chart.is (record {
       text = charted.text;
-      is = charted.is;
+      is = subst (λ listed. IsTextDone (IsChartEnd c.in-Chart.drawn listed c.args.bytes.now)
+          c.chart.result.status charted.text c.chart.result.journal.log) c.makers.ensures charted.is;
       written = charted.written;
       legal = charted.legal;
     })
 
-pub returns-in-Seeds : goal.returns-in-Seeds
-returns-in-Seeds g c =
-    let reported = c.report.ensures in
+pub returns-in-Seeds-clause-looked : goal.returns-in-Seeds-clause-looked
+returns-in-Seeds-clause-looked g c =
+    let reported = c.report.ensures.reported in
     rw c.in-Seeds.is (record {
       text = reported.text;
       is = reported.is;
@@ -43,8 +46,8 @@ returns-in-Seeds g c =
       legal = reported.legal;
     })
 
-pub returns-in-Check : goal.returns-in-Check
-returns-in-Check g c =
+pub returns-in-Check-clause-looked : goal.returns-in-Check-clause-looked
+returns-in-Check-clause-looked g c =
     let checked = c.check.ensures in
     rw c.in-Check.is (record {
       text = checked.text;
@@ -53,8 +56,8 @@ returns-in-Check g c =
       legal = checked.legal;
     })
 
-pub returns-in-Replay : goal.returns-in-Replay
-returns-in-Replay g c =
+pub returns-in-Replay-clause-looked : goal.returns-in-Replay-clause-looked
+returns-in-Replay-clause-looked g c =
     let replayed = c.replay.ensures in
     rw c.in-Replay.is (record {
       text = replayed.text;

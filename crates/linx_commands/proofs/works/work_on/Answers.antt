@@ -5,7 +5,7 @@ use Rattle.linx_commands.proofs.works.work_on.Goals as goal
 
 pub returns-in-Ok-clause-worked : goal.returns-in-Ok-clause-worked
 returns-in-Ok-clause-worked g c =
-    let looked = c.look.ensures in
+    let looked = c.look.ensures.looked in
     let read = c.in-Ok.ensures in
     record {
       text = looked.text;
@@ -26,7 +26,7 @@ returns-in-Ok-clause-worked g c =
     }
 
 pub returns-in-Ok-clause-legal : goal.returns-in-Ok-clause-legal
-returns-in-Ok-clause-legal g c = c.look.ensures.legal
+returns-in-Ok-clause-legal g c = c.look.ensures.looked.legal
 
 pub returns-in-Err-clause-worked : goal.returns-in-Err-clause-worked
 returns-in-Err-clause-worked g c =
