@@ -24,7 +24,7 @@ TOP = "linx_commands"
 TOP_CALLS = ["run", "alone", "serial", "tell", "report", "program", "journals_are_decided"]
 LAYERS = [
     ("Values", "linx_base sigsel"),
-    ("The world outside", "linx_outside linx_files"),
+    ("The world outside", "linx_outside linx_files run_progress"),
     ("A journal and the laws of a node", "journal"),
     ("A node", "sorted_set keyed_list name_table hunt_table attach_table front_heap"
                " endpoint_queue node_kernel"),
@@ -45,11 +45,11 @@ LAYERS = [
     ("A text read back", "text_words text_names journal_words reading_laws journal_read text_alone"
                          " text_logs log_laws image_laws journal_told printed_laws texts_again"
                          " text_replay text_check"),
-    ("A chart", "svg_text chart chart_drawing journal_charts chart_page"),
+    ("A chart", "svg_text chart chart_drawing journal_charts chart_map chart_page text_charts"),
     ("A byte stream", "request_stream tcpcm_frames tcpcm_framing tcpcm_end stream_echo"),
     ("Timers, and a gateway",
      "deadlines linx_timers timer_laws gateway_msgs gateway_core gateway_session"),
-    ("The program", "command_words linx_commands"),
+    ("The program", "maker_words command_words linx_commands"),
     ("What stands by itself so far", "deadlines"),
 ]
 BEGINS = re.compile(r" *(?:abbrev pub|unfoldable pub|pub record|pub data|abbrev) ([\w']+)")
