@@ -4,7 +4,7 @@
 use linx_commands::{Told, Words, program};
 use linx_files::SystemNewFile;
 use linx_outside::{ReadFrom, SystemFiles, WriteTo};
-use run_progress::Untold;
+use run_progress::EachSecond;
 
 fn main(rt: HostRuntime) -> Told {
     let words = Words::of(&rt, rt.alloc());
@@ -13,6 +13,7 @@ fn main(rt: HostRuntime) -> Told {
     let mut script = ReadFrom::new(rt.stdin());
     let mut text = WriteTo::new(rt.stdout());
     let mut errors = WriteTo::new(rt.stderr());
+    let mut said = WriteTo::new(rt.stderr());
     program(
         &rt,
         rt.alloc(),
@@ -22,6 +23,6 @@ fn main(rt: HostRuntime) -> Told {
         &mut script,
         &mut text,
         &mut errors,
-        &mut Untold,
+        &mut EachSecond::new(&rt, &mut said),
     )
 }
