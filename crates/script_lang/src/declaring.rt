@@ -11,14 +11,15 @@ ghost use Rattle.script_lang.specs.Parts.{planned_verdicts, with_verdicts};
 ghost use Rattle.script_lang.specs.Fits.{is_link};
 ghost use Rattle.script_lang.specs.Block.{CanGoOn};
 ghost use Rattle.script_lang.specs.Declaring.{twice_named, over_limit, node_added, link_added};
-ghost use Rattle.script_lang.specs.Declaring.{plan_added, actor_begun, declared};
+ghost use Rattle.script_lang.specs.Declaring.{plan_added, actor_begun, relay_added, declared};
 
 use crate::actor_script::{ActorScript, Commands};
 use crate::naming::{is_taken, link_of_name, node_of_name};
 use crate::reading::{Place, Reading};
+use crate::resolving::resolve_path;
 use crate::script::Script;
 use linx_base::{LinkDecl, LinkNo, Name, NameList, NoMemory, Side, Verdict};
-use script_words::{BadKind, Declaration, Fault, LineError};
+use script_words::{BadKind, Declaration, Fault, LineError, Route};
 use std::alloc::Global;
 
 /// The most nodes of a script.
@@ -170,6 +171,30 @@ fn begin_actor(
     })
 }
 
+/// A relay: its name is a new one of an actor, and its path goes over a link of its node. A script
+/// may have none.
+#[tactic(auto, unfolding(crate::specs::Declaring::relay_added))]
+fn add_relay(
+    script: Script,
+    actors: NameList,
+    name: &Name,
+    node: &Name,
+    path: Route,
+) -> Result<Reading, LineError>
+    ensures gives { Gives (λ r. r) result (relay_added script actors name.now node.now path) }
+    ensures fits { IfOk result (λ r. CanGoOn r) }
+{
+    let node = node_of_name(&script, node)?;
+    let _path = resolve_path(&script, node, path)?;
+    if is_taken(actors.as_slice(), name) {
+        return Err(twice_named(name));
+    }
+    if script.actors().len() >= ACTORS_MOST {
+        return Err(over_limit(b"64 actors"));
+    }
+    Err(over_limit(b"0 relays"))
+}
+
 /// A line outside a block.
 #[tactic(auto, unfolding(crate::specs::Declaring::declared))]
 pub(crate) fn declare(
@@ -198,6 +223,14 @@ pub(crate) fn declare(
         } => add_plan(script, &link, from, verdicts.as_slice())?,
         Declaration::Actor { name, node } => {
             return begin_actor(alloc, script, actors, name, &node);
+        }
+        Declaration::Relay {
+            name,
+            node,
+            path,
+            ..
+        } => {
+            return add_relay(script, actors, &name, &node, path);
         }
     };
     Ok(Reading {
