@@ -9,6 +9,7 @@ use Rattle.script_words.specs.declared.bad_kind.BadKind.TheVariants.{TwiceNamed,
 use Rattle.script_words.specs.declared.declaration.Declaration.{Declaration}
 use Rattle.script_words.specs.declared.declaration.Declaration.TheVariants.{Node, Link, Plan, Actor}
 use Rattle.script_words.specs.declared.declaration.Declaration.TheVariants.{Relay}
+use Rattle.script_words.specs.declared.relay_decl.RelayDecl.{RelayDecl}
 use Rattle.script_words.specs.declared.route.Route.{Route}
 use Rattle.script_words.specs.Faults.{bad}
 use Rattle.script_words.specs.Gives.{◌>>=◌, made}
@@ -16,7 +17,7 @@ use Rattle.script_lang.specs.Limits.{node_limit, link_limit, actor_limit, verdic
 use Rattle.script_lang.specs.declared.reading.Reading.{Reading}
 use Rattle.script_lang.specs.declared.reading.Place.TheVariants.{Outside, InActor}
 use Rattle.script_lang.specs.Parts.{ScriptParts, planned_verdicts, with_node, with_link}
-use Rattle.script_lang.specs.Parts.{with_verdicts}
+use Rattle.script_lang.specs.Parts.{with_verdicts, with_relay}
 use Rattle.script_lang.specs.Fits.{is_among}
 use Rattle.script_lang.specs.Naming.{node_named, link_named}
 use Rattle.script_lang.specs.Resolving.{path_resolved}
@@ -66,20 +67,22 @@ actor_begun s actors name node = do
       then Ok (record { script = s; actors = actors ++ name ∷ []; place = began })
       else Err (over_limit (codes "64 actors"))
 
--- What was read so far, with a relay: its name is a new one of an actor, and its path goes over a
--- link of its node. A script may have none
-unfoldable pub relay_added : ScriptParts → List (List ℕ) → List ℕ → List ℕ → Route
-    → Result Reading Fault
-relay_added s actors name node route = do
-  n ← node_named s node
-  path ← path_resolved s n route
-  if is_among actors name then Err (twice_named name)
-      else if nat_lt (length s.actors) actor_limit then Err (over_limit (codes "0 relays"))
-      else Err (over_limit (codes "64 actors"))
-
 -- outside a block, with the script changed
 abbrev pub outside : List (List ℕ) → ScriptParts → Reading
 outside actors s = record { script = s; actors = actors; place = Outside }
+
+-- what was read so far, with a relay: its name is a new one of an actor, and its path goes over a
+-- link of its node
+unfoldable pub relay_added : ScriptParts → List (List ℕ) → List ℕ → List ℕ → List ℕ → Route
+    → Result Reading Fault
+relay_added s actors name node endpoint route = do
+  n ← node_named s node
+  path ← path_resolved s n route
+  let decl : RelayDecl = record { endpoint = endpoint; path = path } in
+      if is_among actors name then Err (twice_named name)
+      else if nat_lt (length s.actors) actor_limit
+      then Ok (outside (actors ++ name ∷ []) (with_relay s n decl))
+      else Err (over_limit (codes "64 actors"))
 
 -- what a line outside a block makes of what was read so far
 unfoldable pub declared : ScriptParts → List (List ℕ) → Declaration → Result Reading Fault
@@ -89,4 +92,5 @@ declared s actors (Link name first second window piece) =
 declared s actors (Plan link from verdicts) =
     made (outside actors) (plan_added s link from verdicts)
 declared s actors (Actor name node) = actor_begun s actors name node
-declared s actors (Relay name node endpoint route) = relay_added s actors name node route
+declared s actors (Relay name node endpoint route) =
+    relay_added s actors name node endpoint route
