@@ -25,7 +25,7 @@ use Rattle.stage.specs.declared.acting.Acted.TheVariants.{Done, Halfway, Stopped
 use Rattle.stage.specs.declared.player.Player.{Player}
 use Rattle.stage.specs.Seats.{IsSeated, Learns}
 use Rattle.stage.specs.Settlings.{IsActedAs}
-use Rattle.stage.specs.Turns.{commands_of}
+use Rattle.stage.specs.Turns.{part_of}
 use Rattle.stage.proofs.Rounds.Stops.{stops-full}
 use Rattle.stage.proofs.Actors.Turns.{turn-asks, turn-learned}
 use Rattle.workers.specs.Turning.{Asks, IsActedIn, IsRightlyFull, stop_of}
@@ -40,7 +40,7 @@ module _ (script : ScriptParts) (declared : IsScript script) (p : PassView Step 
     (ask : Ask) (asks : Asks script p ask) (f : Layout) (plan : plan_of f ≡ p.fixed)
     (rests : RestsFor p.number (story_of f) p.front) where
   abbrev commands : List Command
-  commands = commands_of script p.number
+  commands = part_of script p.number
 
   abbrev player : Player
   player = asks.player
@@ -91,8 +91,8 @@ pub acted-knows : (script : ScriptParts) (declared : IsScript script) → IsOneS
     (acted : Acted) (ended : Bool) → IsActedIn before ask acted ended after
     → (given next : Player)
     → given.mind
-    ≡ handed (commands_of script before.number) asks.player.mind asks.player.me
-    → given.me ≡ asks.player.me → Learns (commands_of script before.number) given acted next
+    ≡ handed (part_of script before.number) asks.player.mind asks.player.me
+    → given.me ≡ asks.player.me → Learns (part_of script before.number) given acted next
     → IsWorking script after (Some next)
 acted-knows script declared one before after ask asks acted ended turn given next mind me learns =
     subst (λ (q : PassView Step PlanParts). IsWorking script q (Some next)) (sym turn.turn.same)
@@ -161,10 +161,10 @@ acted-full before after ask acted ended turn met =
 -- between two turns an actor that hasn't ended plays
 pub seat-playing : (script : ScriptParts) (p : PassView Step PlanParts) (player : Player)
     → IsWorking script p (Some player) → has_ended (seen p) p.number ≡ false
-    → Playing (commands_of script p.number) p.number (seen p) player.mind player.me
+    → Playing (part_of script p.number) p.number (seen p) player.mind player.me
 seat-playing script p player working running =
     subst (λ (b : Bool).
-    IsTurned (commands_of script p.number) p.number (seen p) player.mind player.me b) running
+    IsTurned (part_of script p.number) p.number (seen p) player.mind player.me b) running
     working.played.1
 
 -- lending says nothing of the place
@@ -176,10 +176,10 @@ lent-place false k = refl
 -- and it is within its commands, as it is once the signal is handed over
 pub seat-within : (script : ScriptParts) (p : PassView Step PlanParts) (player : Player)
     → IsWorking script p (Some player) → has_ended (seen p) p.number ≡ false
-    → (handed (commands_of script p.number) player.mind player.me).place
-    ≤ length (commands_of script p.number)
+    → (handed (part_of script p.number) player.mind player.me).place
+    ≤ length (part_of script p.number)
 seat-within script p player working running =
     let playing = seat-playing script p player working running in
-    let commands = commands_of script p.number in
+    let commands = part_of script p.number in
     subst (λ (place : ℕ). place ≤ length commands)
     (sym (lent-place (lends commands player.mind player.me) player.mind)) playing.within

@@ -45,7 +45,7 @@ use Rattle.fabric.specs.Asks.{FitsEvent, MayAsk}
 use Rattle.fabric.specs.Fits.{LeavesBy}
 use Rattle.fabric.specs.Machine.{hands_over, signal_in}
 use Rattle.fabric.specs.Run.{Layout}
-use Rattle.stage.specs.Turns.{commands_in, commands_of, shape_of}
+use Rattle.stage.specs.Turns.{part_in, part_of, shape_of}
 
 -- WHATEVER A COMMAND ASKS FOR has a signal in hand exactly where it hands one over, and is no
 -- pump's
@@ -86,9 +86,9 @@ next-actors commands k P =
     asks-actors mind (last_endpoint P k) (slice_get commands mind.place)
 
 pub next-handed : (s : ScriptParts) → IsScript s → (P : List Step) (k : ℕ)
-    → is_some (next_ask (commands_of s k) k P).hand
-    ≡ hands_over (next_ask (commands_of s k) k P).event
-next-handed s script P k = (next-actors (commands_of s k) k P).handed
+    → is_some (next_ask (part_of s k) k P).hand
+    ≡ hands_over (next_ask (part_of s k) k P).event
+next-handed s script P k = (next-actors (part_of s k) k P).handed
 
 -- the bounds of a number that is within them
 pub within_bounds : (low high n : ℕ) → is_within low high n ≡ true → (low ≤ n) × (n ≤ high)
@@ -213,7 +213,7 @@ node_in (Some a) = a.node
 -- of the actors of a script
 commands-fit : (s : ScriptParts) (actors : List ActorScript) (n place : ℕ)
     → list_all (fits_actor s) actors ≡ true
-    → FitsIf s (node_in (slice_get actors n)) (slice_get (commands_in (slice_get actors n)) place)
+    → FitsIf s (node_in (slice_get actors n)) (slice_get (part_in (slice_get actors n)) place)
 commands-fit s [] zero zero all = tt
 commands-fit s [] zero (suc place) all = tt
 commands-fit s [] (suc n) zero all = tt
@@ -238,12 +238,12 @@ node-same (a ∷ rest) (suc n) = node-same rest n
 pub may_ask : (s : ScriptParts) → IsScript s → (f : Layout) → f.shape ≡ shape_of s
     → f.log.names ≡ s.names → (k : ℕ) → 0 < k → k ≤ length s.actors
     → has_ended f.log.steps k ≡ false
-    → MayAsk f (Actor k) (next_ask (commands_of s k) k f.log.steps)
+    → MayAsk f (Actor k) (next_ask (part_of s k) k f.log.steps)
 may_ask s script f shape names zero above within running = absurd (omega arith)
 may_ask s script f shape names (suc n) above within running =
     let P : List Step = f.log.steps in
-    let ask : Ask = next_ask (commands_of s (suc n)) (suc n) P in
-    let mind : Knows = knows (commands_of s (suc n)) (suc n) P in
+    let ask : Ask = next_ask (part_of s (suc n)) (suc n) P in
+    let mind : Knows = knows (part_of s (suc n)) (suc n) P in
     let home : node_by f.shape (Actor (suc n)) ≡ (node_in (slice_get s.actors n)).0 =
     ap (λ (x : Shape). node_by x (Actor (suc n))) shape ∙ node-same s.actors n in
     let count : length f.shape.actors ≡ length s.actors =
@@ -254,6 +254,6 @@ may_ask s script f shape names (suc n) above within running =
       handed = next-handed s script P (suc n);
       fits = subst (λ (node : ℕ). FitsEvent f node ask.event (signal_in ask.hand)) (sym home)
           (asks-fit s script f shape names (node_in (slice_get s.actors n)) mind
-          (last_endpoint P (suc n)) (slice_get (commands_of s (suc n)) mind.place)
+          (last_endpoint P (suc n)) (slice_get (part_of s (suc n)) mind.place)
           (commands-fit s s.actors n mind.place script.each_actor));
     }

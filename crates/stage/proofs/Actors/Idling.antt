@@ -35,7 +35,7 @@ use Rattle.stage.specs.declared.stage.Turn.TheVariants.{Ended, Waits}
 use Rattle.stage.specs.Settlings.{GoesOnAfter, settled_by, settles_none}
 use Rattle.stage.specs.Plays.{AllFollow, Play}
 use Rattle.stage.specs.Turns.{IsActed, IsBehind, IsTurn, IsTurnBy, IsTurnOf, acts_next, asked_next}
-use Rattle.stage.specs.Turns.{ended_before, commands_of, shape_of}
+use Rattle.stage.specs.Turns.{ended_before, part_of, shape_of}
 use Rattle.stage.proofs.Actors.Waiting.{waits_at}
 
 pub not_true : (b : Bool) → not b ≡ true → b ≡ false
@@ -47,7 +47,7 @@ none_selected None is = refl
 none_selected (Some item) is = absurd (true≢false (sym is))
 
 module _ (script : ScriptParts) (f : Layout) (k : ℕ)
-    (follows : Follows (commands_of script k) k f.log.steps) where
+    (follows : Follows (part_of script k) k f.log.steps) where
   abbrev P : List Step
   P = f.log.steps
 
@@ -57,17 +57,17 @@ module _ (script : ScriptParts) (f : Layout) (k : ℕ)
   -- its head, by what it waits with and where
   no_head : (w : Option Sigsel) (me : Option Inc) → waits_with P k ≡ w → endpoint_of P k ≡ me
       → waits_in_vain P w me ≡ true → (is_at_rest f.shape P k && still) ≡ false
-      → head_for f.shape P still (Actor k) (next_ask (commands_of script k) k P) ≡ None
+      → head_for f.shape P still (Actor k) (next_ask (part_of script k) k P) ≡ None
   no_head None me waits at vain busy = absurd (true≢false (sym vain))
   no_head (Some filter) None waits at vain busy = absurd (true≢false (sym vain))
   no_head (Some filter) (Some i) waits at vain busy =
-      let stands : slice_get (commands_of script k) (knows (commands_of script k) k P).place
+      let stands : slice_get (part_of script k) (knows (part_of script k) k P).place
       ≡ Some (Recv filter) =
-      waits_at (commands_of script k) k P follows filter waits in
-      let asked : next_ask (commands_of script k) k P
+      waits_at (part_of script k) k P follows filter waits in
+      let asked : next_ask (part_of script k) k P
       ≡ record { event = asks.Look filter; hand = None } =
       ap (λ (c : Option Command).
-      ask_of (knows (commands_of script k) k P) (last_endpoint P k) c) stands in
+      ask_of (knows (part_of script k) k P) (last_endpoint P k) c) stands in
       let none : first_selected filter (queued P i) ≡ None =
       none_selected (first_selected filter (queued P i)) vain in
       rw (asked, at, none, busy, waits) refl
@@ -84,8 +84,8 @@ module _ (script : ScriptParts) (f : Layout) (k : ℕ)
   looks (Some filter) me waits at vain =
       no_settle filter
       (ap (λ (c : Option Command).
-      ask_of (knows (commands_of script k) k P) (last_endpoint P k) c)
-      (waits_at (commands_of script k) k P follows filter waits))
+      ask_of (knows (part_of script k) k P) (last_endpoint P k) c)
+      (waits_at (part_of script k) k P follows filter waits))
 
   -- IT WAITS ON
   pub idle-turn : is_idle P k ≡ true → (is_at_rest f.shape P k && still) ≡ false
@@ -157,7 +157,7 @@ module _ (script : ScriptParts) (f : Layout) (k : ℕ) (within : k ≤ length sc
   ended-passed ended =
       turn_of-actor Ended (ended_before ended refl refl)
 
-  pub waiting-passed : Follows (commands_of script k) k f.log.steps
+  pub waiting-passed : Follows (part_of script k) k f.log.steps
       → has_ended f.log.steps k ≡ false
       → (is_idle f.log.steps k
       && not (is_at_rest f.shape f.log.steps k

@@ -38,7 +38,7 @@ use Rattle.stage.specs.Plays.{AllFollow}
 use Rattle.stage.specs.Pumps.{pump_event}
 use Rattle.stage.specs.Turns.{AreTurns, IsPump, IsRound, IsTurn, IsTurnBy, acts_next, asks_nothing}
 use Rattle.stage.specs.Turns.{ended_before, makes_event}
-use Rattle.stage.specs.Turns.{IsTurnOf, asked_next, commands_of, is_over, makers, shape_of}
+use Rattle.stage.specs.Turns.{IsTurnOf, asked_next, part_of, is_over, makers, shape_of}
 use Rattle.stage.specs.declared.stage.Pump as pumps
 use Rattle.stage.specs.declared.stage.Turn.{Turn}
 use Rattle.stage.proofs.Actors.Going.{done-far, done-still, far-grows, step-grows}
@@ -242,8 +242,8 @@ module _ (script : ScriptParts) where
 module _ (script : ScriptParts) (f : Layout) (shape : f.shape ≡ shape_of script)
     (follows : AllFollow script f.log.steps)
     (handed : (k : ℕ) → 0 < k → k ≤ length script.actors
-    → is_some (next_ask (commands_of script k) k f.log.steps).hand
-    ≡ hands_over (next_ask (commands_of script k) k f.log.steps).event) where
+    → is_some (next_ask (part_of script k) k f.log.steps).hand
+    ≡ hands_over (next_ask (part_of script k) k f.log.steps).event) where
   abbrev P : List Step
   P = f.log.steps
 
@@ -262,10 +262,10 @@ module _ (script : ScriptParts) (f : Layout) (shape : f.shape ≡ shape_of scrip
   stuck-turn k above within turn running (ended_before ended same came) =
       absurd (true≢false (sym ended ∙ running))
   stuck-turn k above within turn running (acts_next so made) =
-      none-stuck f.shape P still k (commands_of script k) (follows k above within)
+      none-stuck f.shape P still k (part_of script k) (follows k above within)
       (handed k above within)
       (step-none f (Actor k)
-      (head_for f.shape P still (Actor k) (next_ask (commands_of script k) k P)) made.answer
+      (head_for f.shape P still (Actor k) (next_ask (part_of script k) k P)) made.answer
       (done-still f k (asked_next script k f) made.answer made.done))
 
   stuck-by : (k : ℕ) → 0 < k → k ≤ count → has_ended P k ≡ false → (actor : Bool)

@@ -24,7 +24,7 @@ use Rattle.fabric.specs.Run.{IsStepFor, Layout}
 use Rattle.stage.specs.declared.player.Player.{Player}
 use Rattle.stage.specs.Seats.{IsSeated}
 use Rattle.stage.specs.Settlings.{AreSettlings}
-use Rattle.stage.specs.Turns.{commands_of}
+use Rattle.stage.specs.Turns.{part_of}
 use Rattle.stage.proofs.Actors.Going.{GoesFar}
 use Rattle.stage.proofs.Actors.Steps.{step-opens}
 use Rattle.stage.proofs.Settling.Steps.{HasMoved, has-moved, move-done, move-pumped}
@@ -92,14 +92,14 @@ pub seated-other : (script : ScriptParts) (now before : List Step) (k : ℕ) (pl
     → GoesOn k now before → IsSeated script before k player → IsSeated script now k player
 seated-other script now before k player on seated =
     let ended : has_ended now k ≡ has_ended before k = has_ended_goes_on k now before on in
-    subst (λ (b : Bool). IsTurned (commands_of script k) k now player.mind player.me b) (sym ended)
+    subst (λ (b : Bool). IsTurned (part_of script k) k now player.mind player.me b) (sym ended)
     (go (has_ended before k) seated)
   where
-    go : (b : Bool) → IsTurned (commands_of script k) k before player.mind player.me b
-        → IsTurned (commands_of script k) k now player.mind player.me b
-    go true whole = whole_goes_on (commands_of script k) k now before on whole
+    go : (b : Bool) → IsTurned (part_of script k) k before player.mind player.me b
+        → IsTurned (part_of script k) k now player.mind player.me b
+    go true whole = whole_goes_on (part_of script k) k now before on whole
     go false playing =
-        playing_goes_on (commands_of script k) k now before player.mind player.me on playing
+        playing_goes_on (part_of script k) k now before player.mind player.me on playing
 
 -- AN ACTOR THAT SETTLES A LINK is between two turns after so many steps of it
 moved-playing : (commands : List Command) (k : ℕ) (l : LinkNo) (mind : Knows) (me : Option Inc)

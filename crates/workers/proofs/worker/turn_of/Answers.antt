@@ -4,7 +4,7 @@ use Rattle.actor_run.specs.Asking.{asked_by, handed}
 use Rattle.actor_run.specs.Knowing.{Knows}
 use Rattle.stage.specs.declared.player.Player.{Player}
 use Rattle.stage.specs.Seats.{Learns}
-use Rattle.stage.specs.Turns.{commands_of}
+use Rattle.stage.specs.Turns.{part_of}
 use Rattle.workers.specs.Turning.{stop_met}
 use Rattle.stage.proofs.Plans.OneState.{one_state}
 use Rattle.workers.proofs.Playing.{acted-done, acted-full, acted-knows, acted-runs, seat-within}
@@ -19,7 +19,7 @@ act_in_turn-pass-requires-clause-asks g c =
     let mind = c.args.player.now.mind in
     let me = c.args.player.now.me in
     let its = c.actor_of-commands.ensures.commands
-    ∙ ap (commands_of c.args.script.now) c.number.ensures in
+    ∙ ap (part_of c.args.script.now) c.number.ensures in
     record {
       player = c.args.player.now;
       working = c.requires.working;
@@ -32,7 +32,7 @@ learn-came-requires-clause-place g c =
     let mind = c.args.player.now.mind in
     let me = c.args.player.now.me in
     let its = c.actor_of-commands.ensures.commands
-    ∙ ap (commands_of c.args.script.now) c.number.ensures in
+    ∙ ap (part_of c.args.script.now) c.number.ensures in
     let place = ap (λ (m : Knows). m.place) c.in-Ok.ensures.ok
     ∙ ap (λ (l : List Command). (handed l mind me).place) its in
     let long = ap length its in
@@ -46,7 +46,7 @@ returns-clause-working g c =
     let mind = c.args.player.now.mind in
     let me = c.args.player.now.me in
     let declared = c.actor_of-commands.ensures.script in
-    let its = c.actor_of-commands.ensures.commands ∙ ap (commands_of script) c.number.ensures in
+    let its = c.actor_of-commands.ensures.commands ∙ ap (part_of script) c.number.ensures in
     let given : Player = record { mind = c.next.new.self; me = me } in
     let turn = c.act_in_turn-pass.result.1 in
     acted-knows script declared (one_state c.runs_reach_one_state.ensures script declared)
