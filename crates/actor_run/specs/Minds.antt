@@ -10,7 +10,6 @@ use Rattle.script_words.specs.declared.relay_decl.RelayDecl.{RelayDecl}
 use Rattle.script_words.specs.Declaration.{leaves_room_for_hop}
 use Rattle.script_lang.specs.declared.actor_script.ActorScript.{ActorScript}
 use Rattle.relay_steps.specs.declared.phase.Phase.{Phase}
-use Rattle.relay_steps.specs.declared.phase.Phase.TheVariants.{Passing}
 use Rattle.relay_steps.specs.Phases.{relay_asks}
 use Rattle.relay_steps.specs.Relays as relays
 use Rattle.actor_run.specs.Asking as asking
@@ -58,15 +57,10 @@ abbrev pub is_waiting : Mind → Bool
 is_waiting (OfCommands k) = k.waiting
 is_waiting (OfRelay r) = r.waiting
 
--- a relay in this phase holds the signal that it sends on, if it sends one on
-abbrev pub holds_signal : Phase → Bool
-holds_signal (Passing ends to signal) = is_some signal
-holds_signal phase = true
-
--- nothing is handed over whose answer hasn't come yet
+-- no buffer is lent whose answer hasn't come yet; a relay lends none
 abbrev pub is_home : Mind → Bool
 is_home (OfCommands k) = not k.lent
-is_home (OfRelay r) = holds_signal r.phase
+is_home (OfRelay r) = true
 
 -- what is known is of this part of a script: it stands among these commands, or it is a relay
 abbrev pub IsWithin : ActorScript → Mind → Type 0

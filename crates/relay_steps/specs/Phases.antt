@@ -10,6 +10,8 @@ use Rattle.linx_base.specs.SigNotes.{SigNote}
 use Rattle.sigsel.specs.declared.sigsel.Sigsel.TheVariants.{Any, Only}
 use Rattle.journal.specs.declared.event.Event.{Event}
 use Rattle.journal.specs.declared.event.Event.TheVariants as asks
+use Rattle.journal.specs.declared.head.Refusal.TheVariants.{NoSignal}
+use Rattle.node_kernel.specs.Answers.{refused}
 use Rattle.node_kernel.specs.declared.answers.StepAnswer.{StepAnswer}
 use Rattle.node_kernel.specs.declared.answers.StepAnswer.TheVariants as answers
 use Rattle.node_kernel.specs.declared.ask.Ask.{Ask}
@@ -37,6 +39,11 @@ bare event = record { event = event; hand = None }
 abbrev pub with_hand : Event → SigNote → Ask
 with_hand event signal = record { event = event; hand = Some signal }
 
+-- the sending on of a signal, which is refused where it isn't held
+abbrev pub passed_on : Peer → Option SigNote → Ask
+passed_on to None = refused NoSignal
+passed_on to (Some signal) = with_hand (asks.Send to) signal
+
 -- WHAT A RELAY ASKS FOR in each phase: the number of the answer to its hunt is 251, and that of what
 -- tells it of an end 252
 abbrev pub relay_asks : RelayDecl → Phase → Ask
@@ -48,7 +55,7 @@ relay_asks decl (Opening far) = bare (asks.Open decl.endpoint)
 relay_asks decl (AttachingFar far) = with_hand (asks.Attach far) (numbered 252)
 relay_asks decl (Serving ends) = bare (asks.Look Any)
 relay_asks decl (AttachingClient far client signal) = with_hand (asks.Attach client) (numbered 252)
-relay_asks decl (Passing ends to signal) = record { event = asks.Send to; hand = signal }
+relay_asks decl (Passing ends to signal) = passed_on to signal
 relay_asks decl Closing = bare asks.Close
 relay_asks decl Ending = bare asks.End
 

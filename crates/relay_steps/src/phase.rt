@@ -3,10 +3,10 @@ ghost use Rattle.linx_base.specs.Peers.{same_peer};
 ghost use Rattle.script_words.specs.Declaration.{leaves_room_for_hop};
 ghost use Rattle.relay_steps.specs.Phases.{after, after_item, after_other, answered, beyond};
 ghost use Rattle.relay_steps.specs.Phases.{is_found, is_notice, is_passing, is_refusal};
-ghost use Rattle.relay_steps.specs.Phases.{numbered, passing, relay_asks, served};
+ghost use Rattle.relay_steps.specs.Phases.{numbered, passed_on, passing, relay_asks, served};
 
 use crate::hop::hop_name;
-use journal::Event;
+use journal::{Event, Refusal};
 use linx_base::{Blob, Item, Kind, NoMemory, Peer, Signal, TryCopy};
 use node_kernel::{Ask, StepAnswer};
 use script_words::RelayDecl;
@@ -81,6 +81,19 @@ fn empty_handed(event: Event) -> Ask
     ensures { result ≡ record { event = event; hand = None } }
 {
     Ask { event, hand: None }
+}
+
+/// The sending on of a signal, which is refused where it isn't held.
+pub(crate) fn pass_on(to: Peer, signal: Option<Signal>) -> Ask
+    ensures { result ≡ passed_on to signal }
+{
+    match signal {
+        Some(signal) => Ask {
+            event: Event::Send(to),
+            hand: Some(signal),
+        },
+        None => empty_handed(Event::Refuse(Refusal::NoSignal)),
+    }
 }
 
 /// Whether two peers are one.

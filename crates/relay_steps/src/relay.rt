@@ -3,8 +3,7 @@ ghost use Rattle.script_words.specs.Declaration.{leaves_room_for_hop};
 ghost use Rattle.relay_steps.specs.Phases.{relay_asks};
 ghost use Rattle.relay_steps.specs.Relays.{first_relay, handed, stopped_with, told};
 
-use crate::phase::Phase;
-use journal::Event;
+use crate::phase::{Phase, pass_on};
 use linx_base::{NoMemory, Signal};
 use node_kernel::{Ask, StepAnswer};
 use script_words::RelayDecl;
@@ -39,10 +38,7 @@ impl Relay {
         ensures err { OnErr result (self.new ≡ self.old) }
     {
         if let Phase::Passing { to, signal, .. } = &mut self.phase {
-            return Ok(Ask {
-                event: Event::Send(*to),
-                hand: signal.take(),
-            });
+            return Ok(pass_on(*to, signal.take()));
         }
         self.phase.ask(alloc, decl)
     }
