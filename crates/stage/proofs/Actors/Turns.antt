@@ -5,15 +5,15 @@ use Rattle.linx_base.specs.declared.identity.Inc.{Inc}
 use Rattle.linx_base.specs.SigNotes.{SigNote}
 use Rattle.journal.specs.declared.by.By.TheVariants.{Actor}
 use Rattle.journal.specs.declared.effect.Step.{Step}
-use Rattle.script_words.specs.declared.command.Command.{Command}
+use Rattle.script_lang.specs.declared.actor_script.ActorScript.{ActorScript}
 use Rattle.script_lang.specs.Fits.{IsScript}
 use Rattle.script_lang.specs.Parts.{ScriptParts}
 use Rattle.node_kernel.specs.declared.answers.StepAnswer.{StepAnswer}
 use Rattle.node_kernel.specs.declared.ask.Ask.{Ask}
 use Rattle.node_kernel.specs.Answers.{is_end_event}
-use Rattle.actor_run.specs.Asking.{asked_by, handed}
+use Rattle.actor_run.specs.declared.mind.Mind.{Mind}
 use Rattle.actor_run.specs.Following.{IsTurned, endpoint_after, next_ask, Playing}
-use Rattle.actor_run.specs.Knowing.{Knows, stopped_with, told}
+use Rattle.actor_run.specs.Minds.{asked_by, handed, stopped_with, told}
 use Rattle.actor_run.proofs.Turns.{MakesAsked, stopped_same, turned}
 use Rattle.fabric.specs.Asks.{MayAsk}
 use Rattle.fabric.specs.Machine.{hands_over}
@@ -33,14 +33,14 @@ use Rattle.stage.proofs.Actors.Steps.{makes}
 use Rattle.stage.proofs.Rounds.PlayersBetweenTurns.{settlings-playing}
 use Rattle.stage.proofs.Rounds.Seats.{turned-seated}
 
-asked-next : (commands : List Command) (k : ℕ) (P : List Step) (mind : Knows)
-    (me : Option Inc) → Playing commands k P mind me
-    → asked_by commands mind me ≡ next_ask commands k P
-asked-next commands k P mind me playing = rw (playing.known, playing.mine) refl
+asked-next : (part : ActorScript) (k : ℕ) (P : List Step) (mind : Mind)
+    (me : Option Inc) → Playing part k P mind me
+    → asked_by part mind me ≡ next_ask part k P
+asked-next part k P mind me playing = rw (playing.known, playing.mine) refl
 
 module _ (script : ScriptParts) (declared : IsScript script) (old : Layout)
     (shape : old.shape ≡ shape_of script) (names : old.log.names ≡ script.names) (k : ℕ)
-    (above : 0 < k) (within : k ≤ length script.actors) (mind : Knows) (me : Option Inc)
+    (above : 0 < k) (within : k ≤ length script.actors) (mind : Mind) (me : Option Inc)
     (playing : Playing (part_of script k) k old.log.steps mind me) (ask : Ask)
     (is : ask ≡ asked_by (part_of script k) mind me) where
   ask-next : ask ≡ next_ask (part_of script k) k old.log.steps
@@ -73,17 +73,17 @@ module _ (script : ScriptParts) (declared : IsScript script) (old : Layout)
       → player.me ≡ endpoint_after me answer → IsSeated script new.log.steps k player
   step-seated new answer stepped player mind_is me_is =
       let P : List Step = old.log.steps in
-      let commands : List Command = part_of script k in
+      let part : ActorScript = part_of script k in
       let handed_is : is_some ask.hand ≡ hands_over ask.event =
       subst (λ (a : Ask). is_some a.hand ≡ hands_over a.event) (sym ask-next)
       (next-handed script declared P k) in
-      let made : MakesAsked P k (asked_by commands mind me) answer new.log.steps =
+      let made : MakesAsked P k (asked_by part mind me) answer new.log.steps =
       subst (λ (a : Ask). MakesAsked P k a answer new.log.steps) is
       (makes old new k ask answer handed_is stepped) in
-      let over = is_end_event (asked_by commands mind me).event in
+      let over = is_end_event (asked_by part mind me).event in
       turned-seated script new.log.steps k player over
       (rw (mind_is, me_is)
-      (turned commands k P new.log.steps mind me answer over playing refl made))
+      (turned part k P new.log.steps mind me answer over playing refl made))
 
   -- WHAT IT LEAVES, as far as it goes
   pub turn-seated : (new : Layout) (answer : StepAnswer) → GoesFar old new k ask answer

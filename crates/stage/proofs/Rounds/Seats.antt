@@ -25,7 +25,7 @@ use Rattle.trunk_moves.specs.Trunks.{links_of}
 use Rattle.script_lang.specs.Parts.{ScriptParts}
 use Rattle.node_kernel.specs.declared.answers.StepAnswer.{StepAnswer}
 use Rattle.actor_run.specs.Following.{Follows, IsTurned, Playing}
-use Rattle.actor_run.specs.Knowing.{knows_nothing}
+use Rattle.actor_run.specs.Minds.{knows_nothing}
 use Rattle.actor_run.proofs.Others.{GoesOn}
 use Rattle.actor_run.proofs.Turns.{playing_first}
 use Rattle.fabric.specs.Actings.{OnlyRuns}
@@ -65,8 +65,8 @@ first_seated : (actors : List ActorScript) (n : ℕ) (player : Player)
 first_seated [] zero player is = cc
 first_seated [] (suc n) player is = cc
 first_seated (a ∷ actors) zero player is =
-    let same : record { mind = knows_nothing a.commands; me = None } ≡ player = inner is in
-    subst (λ (p : Player). Playing a.commands 1 [] p.mind p.me) same (playing_first a.commands 1)
+    let same : record { mind = knows_nothing a; me = None } ≡ player = inner is in
+    subst (λ (p : Player). Playing a 1 [] p.mind p.me) same (playing_first a 1)
   where
     inner : {p q : Player} → Some p ≡ Some q → p ≡ q
     inner e = cc
