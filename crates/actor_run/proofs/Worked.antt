@@ -41,7 +41,7 @@ use Rattle.actor_run.specs.Asking.{asked_by, handed, bare, with_hand}
 use Rattle.actor_run.specs.Following.{Follows, FollowsWhole, IsAskedStep, knows, next_ask}
 use Rattle.actor_run.specs.Minds.{is_waiting}
 use Rattle.script_lang.specs.declared.actor_script.ActorScript.{ActorScript}
-use Rattle.script_lang.specs.Parts.{acting}
+use Rattle.script_lang.specs.Parts.{acting, relaying}
 
 -- the actor's endpoint, and a server behind a link
 abbrev one : Inc
@@ -326,3 +326,29 @@ waits_twice f = let wrong : true ≡ false = (f.1 refl).once refl in cc
 -- it isn't whole before the end
 not_whole : FollowsWhole part 1 (opened ∷ []) → ⊥
 not_whole f = let wrong : false ≡ true = f.1 in cc
+
+-- A RELAY opens its hop first, and hunts there
+abbrev relay : ActorScript
+relay = relaying (record { 0 = 1 }) (record {
+  endpoint = codes "p";
+  path = Over link (codes "b");
+})
+
+hop_first : next_ask relay 1 [] ≡ bare (asks.Open (codes "p.hop"))
+hop_first = refl
+
+abbrev hop_opened : Step
+hop_opened = made (heads.Open (codes "p.hop")) (Opened one ∷ [])
+
+hunt_then : next_ask relay 1 (hop_opened ∷ [])
+    ≡ with_hand (asks.Hunt (Over link (codes "b"))) (record { number = 251; bytes = [] })
+hunt_then = refl
+
+relay_follows : Follows relay 1 (hop_opened ∷ [])
+relay_follows = (tt, λ _. record { running = refl; names = refl; once = λ w. cc })
+
+-- and no relay closes its hop before it hunted
+closes_early : Follows relay 1 (closed ∷ hop_opened ∷ []) → ⊥
+closes_early f =
+    let hands : None ≡ Some (record { number = 251; bytes = [] }) =
+    ap (λ (a : Ask). a.hand) (f.1 refl).names in cc
