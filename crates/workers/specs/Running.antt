@@ -42,7 +42,7 @@ AreFinished (w ∷ rest) = (w.end ≡ Finished) × AreFinished rest
 
 -- THE SHARE OF MAKER n in a run: its pass has seen a front of the journal, to which this maker has
 -- added nothing since; the steps that it made are those of the pass; each is as planned, and an
--- actor's are the first of its commands
+-- actor's are the first of its part
 pub record IsShare (script : ScriptParts) (f : Layout) (n : ℕ) (p : PassView Step PlanParts)
     : Type 0 where
   pub number : p.number ≡ n
