@@ -130,26 +130,20 @@ waits_at part k [] follows f waits = cc
 waits_at part k (s ∷ P) follows f waits =
     go (waits_at part k P follows.0 f) (is_by s.by k) refl waits
   where
-    abbrev mind : Mind
-    mind = knows part k P
-
-    abbrev me : Option Inc
-    me = last_endpoint P k
-
     -- by its own step
-    own : s.head ≡ heads.Waits f → is_own s k ≡ true → (asked_by part mind me).event ≡ asks.Look f
+    own : s.head ≡ heads.Waits f → is_own s k ≡ true → (asked_by part (knows part k P) (last_endpoint P k)).event ≡ asks.Look f
     own is mine =
         let asked = follows.1 mine in
         let event : (granted P k (next_ask part k P)).event ≡ asks.Look f =
         sym (ap (λ (a : Ask). a.event) asked.names) ∙ ap event_of is in
         granted_look (endpoint_of P k) (closed_step P k) (next_ask part k P) f event
 
-    go : (waits_with P k ≡ Some f → Looks part mind f)
+    go : (waits_with P k ≡ Some f → Looks part (knows part k P) f)
         → (b : Bool) → is_by s.by k ≡ b → (if b then waits_in s.head else waits_with P k) ≡ Some f
         → Looks part
         (if b && not (is_pumped s.head)
-        then told part (handed part mind me) (answer_of P s.head s.effects)
-        else mind) f
+        then told part (handed part (knows part k P) (last_endpoint P k)) (answer_of P s.head s.effects)
+        else knows part k P) f
     go before false other still = before still
     go before true mine says =
         let is : s.head ≡ heads.Waits f = waits_only s.head f says in
@@ -157,6 +151,6 @@ waits_at part k (s ∷ P) follows f waits =
         let its : is_own s k ≡ true = rw (mine, unpumped) refl in
         subst (λ (head : Head). Looks part
         (if true && not (is_pumped head)
-        then told part (handed part mind me) (answer_of P head s.effects)
-        else mind) f) (sym is)
-        (told_looks part mind me f (own is its))
+        then told part (handed part (knows part k P) (last_endpoint P k)) (answer_of P head s.effects)
+        else knows part k P) f) (sym is)
+        (told_looks part (knows part k P) (last_endpoint P k) f (own is its))
