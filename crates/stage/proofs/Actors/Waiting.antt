@@ -131,7 +131,8 @@ waits_at part k (s ∷ P) follows f waits =
     go (waits_at part k P follows.0 f) (is_by s.by k) refl waits
   where
     -- by its own step
-    own : s.head ≡ heads.Waits f → is_own s k ≡ true → (asked_by part (knows part k P) (last_endpoint P k)).event ≡ asks.Look f
+    own : s.head ≡ heads.Waits f → is_own s k ≡ true
+        → (asked_by part (knows part k P) (last_endpoint P k)).event ≡ asks.Look f
     own is mine =
         let asked = follows.1 mine in
         let event : (granted P k (next_ask part k P)).event ≡ asks.Look f =
@@ -142,7 +143,8 @@ waits_at part k (s ∷ P) follows f waits =
         → (b : Bool) → is_by s.by k ≡ b → (if b then waits_in s.head else waits_with P k) ≡ Some f
         → Looks part
         (if b && not (is_pumped s.head)
-        then told part (handed part (knows part k P) (last_endpoint P k)) (answer_of P s.head s.effects)
+        then told part (handed part (knows part k P) (last_endpoint P k))
+        (answer_of P s.head s.effects)
         else knows part k P) f
     go before false other still = before still
     go before true mine says =
@@ -151,6 +153,7 @@ waits_at part k (s ∷ P) follows f waits =
         let its : is_own s k ≡ true = rw (mine, unpumped) refl in
         subst (λ (head : Head). Looks part
         (if true && not (is_pumped head)
-        then told part (handed part (knows part k P) (last_endpoint P k)) (answer_of P head s.effects)
+        then told part (handed part (knows part k P) (last_endpoint P k))
+        (answer_of P head s.effects)
         else knows part k P) f) (sym is)
         (told_looks part (knows part k P) (last_endpoint P k) f (own is its))
