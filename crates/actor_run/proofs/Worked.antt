@@ -328,6 +328,9 @@ not_whole : FollowsWhole part 1 (opened ∷ []) → ⊥
 not_whole f = let wrong : false ≡ true = f.1 in cc
 
 -- A RELAY opens its hop first, and hunts there
+abbrev answer : SigNote
+answer = record { number = 251; bytes = [] }
+
 abbrev relay : ActorScript
 relay = relaying (record { 0 = 1 }) (record {
   endpoint = codes "p";
@@ -341,7 +344,7 @@ abbrev hop_opened : Step
 hop_opened = made (heads.Open (codes "p.hop")) (Opened one ∷ [])
 
 hunt_then : next_ask relay 1 (hop_opened ∷ [])
-    ≡ with_hand (asks.Hunt (Over link (codes "b"))) (record { number = 251; bytes = [] })
+    ≡ with_hand (asks.Hunt (Over link (codes "b"))) answer
 hunt_then = refl
 
 relay_follows : Follows relay 1 (hop_opened ∷ [])
@@ -350,5 +353,5 @@ relay_follows = (tt, λ _. record { running = refl; names = refl; once = λ w. c
 -- and no relay closes its hop before it hunted
 closes_early : Follows relay 1 (closed ∷ hop_opened ∷ []) → ⊥
 closes_early f =
-    let hands : None ≡ Some (record { number = 251; bytes = [] }) =
+    let hands : None ≡ Some answer =
     ap (λ (a : Ask). a.hand) (f.1 refl).names in cc

@@ -33,7 +33,7 @@ use Rattle.actor_run.specs.declared.mind.Mind.{Mind}
 use Rattle.actor_run.specs.declared.mind.Mind.TheVariants.{OfCommands, OfRelay}
 use Rattle.relay_steps.specs.declared.phase.Phase.{Phase}
 use Rattle.relay_steps.specs.declared.phase.Phase.TheVariants.{AwaitingAnswer, Passing, Serving}
-use Rattle.relay_steps.specs.Phases.{relay_asks}
+use Rattle.relay_steps.specs.Phases.{bare, relay_asks}
 use Rattle.relay_steps.specs.Relays.{holding}
 use Rattle.stage.proofs.Actors.Steps.{granted_look}
 
@@ -98,9 +98,9 @@ phase_looks : (decl : RelayDecl) (phase : Phase) (f : Sigsel)
     → (relay_asks decl phase).event ≡ asks.Look f
     → relay_asks decl (holding phase None) ≡ record { event = asks.Look f; hand = None }
 phase_looks decl AwaitingAnswer f is =
-    ap (λ (g : Sigsel). record { event = asks.Look g; hand = None }) (look_filter is)
+    ap (λ (g : Sigsel). bare (asks.Look g)) (look_filter is)
 phase_looks decl (Serving ends) f is =
-    ap (λ (g : Sigsel). record { event = asks.Look g; hand = None }) (look_filter is)
+    ap (λ (g : Sigsel). bare (asks.Look g)) (look_filter is)
 phase_looks decl (Passing ends to None) f is = cc
 phase_looks decl (Passing ends to (Some signal)) f is = cc
 phase_looks decl _ f is = cc
