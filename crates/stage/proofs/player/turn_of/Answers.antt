@@ -1,12 +1,13 @@
 use Rattle.std.proofs.Common.{◌∙◌, ap, refl, subst, sym, IfErr, IfOk, OnErr, Result}
 use Rattle.script_lang.specs.declared.actor_script.ActorScript.{ActorScript}
-use Rattle.actor_run.specs.Minds.{asked_by, handed}
+use Rattle.actor_run.specs.Minds.{IsWithin, asked_by, handed}
+use Rattle.actor_run.proofs.Minds.{handed_within}
 use Rattle.fabric.specs.declared.stop.StopCause.{StopCause}
 use Rattle.stage.specs.declared.player.Player.{Player}
 use Rattle.stage.specs.declared.stage.Turn.{Turn}
 use Rattle.stage.specs.Seats.{Learns}
 use Rattle.stage.specs.Stops.{IsCauseOf}
-use Rattle.stage.specs.Turns.{IsActed, IsTurnStopped}
+use Rattle.stage.specs.Turns.{IsActed, IsTurnStopped, part_of}
 use Rattle.stage.proofs.Actors.Turns.{turn-asks, turn-came, turn-cause, turn-learned, turn-stopped}
 use Rattle.stage.proofs.player.turn_of.Goals as goal
 
@@ -21,6 +22,18 @@ act-acted-requires c =
           (c.in-Ok.ensures.ask
           ∙ ap (λ (l : ActorScript). asked_by l mind me) c.actor_of-part.ensures.part);
     }
+
+pub next-requires-clause-within : goal.next-requires-clause-within
+next-requires-clause-within c =
+    subst (λ (l : ActorScript). IsWithin l c.args.player.now.mind)
+    (sym c.actor_of-part.ensures.part) c.requires.playing.within
+
+pub learn-requires-clause-within : goal.learn-requires-clause-within
+learn-requires-clause-within c =
+    let mind = c.args.player.now.mind in
+    let me = c.args.player.now.me in
+    rw (c.in-Ok.ensures.ok, c.actor_of-part.ensures.part)
+    (handed_within (part_of c.args.script.now c.args.actor) mind me c.requires.playing.within)
 
 pub returns-clause-ok : goal.returns-clause-ok
 returns-clause-ok c =
