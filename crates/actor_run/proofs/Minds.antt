@@ -116,7 +116,9 @@ within-commands commands k answer false e less =
 -- once it has asked
 pub handed_within : (a : ActorScript) (m : Mind) (me : Option Inc) → IsWithin a m
     → IsWithin a (handed a m me)
-handed_within a (OfCommands k) me within = omega (arith, within, handed_place a.commands k me)
+handed_within a (OfCommands k) me within =
+    let place : k.place ≤ length a.commands = within in
+    omega (arith, place, handed_place a.commands k me)
 handed_within a (OfRelay r) me within = within
 
 -- and once it is answered, but after the end
