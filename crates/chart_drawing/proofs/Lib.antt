@@ -2,3 +2,4 @@ pub mod EachRow
 pub mod Counts
 pub mod Behind
 pub mod Few
+pub mod Found

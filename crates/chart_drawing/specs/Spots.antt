@@ -2,6 +2,7 @@
 use Rattle.std.specs.Prelude.{ℕ, ◌+◌, ◌*◌, ◌-◌, ◌==◌, Bool, true, false, not, ◌&&◌}
 use Rattle.std.specs.Prelude.{if◌then◌else◌, List, [], ◌∷◌, ◌++◌, filter, Option, Some, None}
 use Rattle.std.specs.Prelude.{slice_get, find, ◌||◌}
+use Rattle.std.specs.List.Sorted.{IsNonDecreasingBy}
 use Rattle.linx_base.specs.declared.identity.ItemAt.{ItemAt}
 use Rattle.linx_base.specs.Peers.{same_position}
 use Rattle.svg_text.specs.declared.shape.Point.{Point}
@@ -63,6 +64,10 @@ seen_of spots = filter (λ (s : Spot). s.seen) spots
 -- the spot of a line
 abbrev pub spot_at : List Spot → ItemAt → Option Spot
 spot_at spots line = find (λ (s : Spot). same_position s.mark.line line) spots
+
+-- the steps of the lines come in order
+abbrev pub IsInOrder : List Spot → Type 0
+IsInOrder spots = IsNonDecreasingBy (λ (s : Spot). s.mark.line.step) spots
 
 -- there is a spot, and its mark is of one of these makers
 abbrev pub is_spot_of : List By → Option Spot → Bool

@@ -8,7 +8,8 @@ ghost use Rattle.chart_drawing.specs.Arrows.{sent_off};
 
 use crate::cells::{beside, in_cell, in_lane, lane_line, line_to, move_to, put_path};
 use crate::life_marks::{put_cross, put_leaving};
-use crate::spot::{Spot, same_column, spot_at};
+use crate::spot::{Spot, same_column};
+use crate::spots::Spots;
 use chart::{MarkKind, Tie, TieKind};
 use linx_base::{ItemAt, NoMemory};
 use svg_text::{Class, Point, Shape, Stroke};
@@ -179,7 +180,7 @@ fn put_lost(out: &mut Vec<Shape>, from: &Spot) -> Result<(), NoMemory>
 /// A signal from its send to its arrival.
 fn put_signal(
     out: &mut Vec<Shape>,
-    spots: &[Spot],
+    spots: &Spots,
     kind: TieKind,
     from: Option<&Spot>,
     to: Option<&Spot>,
@@ -199,21 +200,11 @@ fn put_signal(
 }
 
 /// The arrows of signals.
-pub(crate) fn put_signals(
-    out: &mut Vec<Shape>,
-    spots: &[Spot],
-    ties: &[Tie],
-) -> Result<(), NoMemory>
+pub(crate) fn put_signals(out: &mut Vec<Shape>, spots: &Spots, ties: &[Tie]) -> Result<(), NoMemory>
     ensures { OnOk result (out.new.items ≡ out.old.items ++ signal_arrows spots.now ties.now) }
 {
     for tie in ties {
-        put_signal(
-            out,
-            spots,
-            tie.kind,
-            spot_at(spots, tie.from),
-            spot_at(spots, tie.to),
-        )?;
+        put_signal(out, spots, tie.kind, spots.at(tie.from), spots.at(tie.to))?;
     }
     Ok(())
 }
@@ -232,14 +223,14 @@ fn put_coming_from(out: &mut Vec<Shape>, look: Look, step: &Spot, to: &Spot) -> 
 }
 
 /// The spot of a mark's step.
-fn step_spot<'a>(spots: &'a [Spot], spot: &Spot) -> Option<&'a Spot>
+fn step_spot<'a>(spots: &'a Spots, spot: &Spot) -> Option<&'a Spot>
     ensures { option_copied result ≡ step_spot spots.now spot.now }
 {
     let line = ItemAt {
         step: spot.mark.line.step,
         place: 0,
     };
-    spot_at(spots, line)
+    spots.at(line)
 }
 
 fn put_coming_if(
@@ -258,7 +249,7 @@ fn put_coming_if(
 }
 
 /// The arrow to what came to a queue.
-fn put_coming(out: &mut Vec<Shape>, spots: &[Spot], to: &Spot) -> Result<(), NoMemory>
+fn put_coming(out: &mut Vec<Shape>, spots: &Spots, to: &Spot) -> Result<(), NoMemory>
     ensures { OnOk result (out.new.items
         ≡ out.old.items ++ coming spots.now to.now.mark.kind to.now) }
 {
@@ -273,7 +264,7 @@ fn put_coming(out: &mut Vec<Shape>, spots: &[Spot], to: &Spot) -> Result<(), NoM
 /// The arrows to what came to queues.
 pub(crate) fn put_comings(
     out: &mut Vec<Shape>,
-    spots: &[Spot],
+    spots: &Spots,
     seen: &[Spot],
 ) -> Result<(), NoMemory>
     ensures { OnOk result (out.new.items ≡ out.old.items ++ comings spots.now seen.now) }

@@ -6,7 +6,8 @@ ghost use Rattle.chart_drawing.specs.Beside.{loop_of, loop_if, loops_with, queue
 ghost use Rattle.chart_drawing.specs.Beside.{round, loop_shape};
 
 use crate::cells::{beside, line_to, move_to, put_path};
-use crate::spot::{Spot, same_column, spot_at};
+use crate::spot::{Spot, same_column};
+use crate::spots::Spots;
 use chart::{MarkKind, Tie, TieKind};
 use linx_base::NoMemory;
 use std::alloc::Global;
@@ -112,17 +113,12 @@ fn put_loop(
 }
 
 /// The loops of ties.
-fn loops_of(alloc: Global, spots: &[Spot], ties: &[Tie]) -> Result<Vec<Loop>, NoMemory>
+fn loops_of(alloc: Global, spots: &Spots, ties: &[Tie]) -> Result<Vec<Loop>, NoMemory>
     ensures { IfOk result (λ loops. loops.items ≡ loops_with spots.now [] ties.now) }
 {
     let mut loops = Vec::new(alloc);
     for tie in ties {
-        put_loop(
-            &mut loops,
-            tie.kind,
-            spot_at(spots, tie.from),
-            spot_at(spots, tie.to),
-        )?;
+        put_loop(&mut loops, tie.kind, spots.at(tie.from), spots.at(tie.to))?;
     }
     Ok(loops)
 }
@@ -191,7 +187,7 @@ fn put_loop_shapes(out: &mut Vec<Shape>, loops: &[Loop]) -> Result<(), NoMemory>
 }
 
 /// The ties that are drawn beside lines.
-pub(crate) fn put_loops(out: &mut Vec<Shape>, spots: &[Spot], ties: &[Tie]) -> Result<(), NoMemory>
+pub(crate) fn put_loops(out: &mut Vec<Shape>, spots: &Spots, ties: &[Tie]) -> Result<(), NoMemory>
     ensures { OnOk result (out.new.items
         ≡ out.old.items ++ map loop_shape (loops_with spots.now [] ties.now)) }
 {

@@ -22,6 +22,7 @@ use crate::rows::{put_bytes, put_number, rows_of};
 use crate::seen::setting_in;
 use crate::setting::Setting;
 use crate::spot::{Spot, seen_of, spots_from, standing_of, ties_of};
+use crate::spots::Spots;
 use crate::view::{View, steps_seen, ties_in};
 use chart::{Mark, Tie};
 use linx_base::{Blob, NoMemory, Sequence};
@@ -101,7 +102,7 @@ fn back_of(
     setting: &Setting,
     rows: u16,
     ties: &[Tie],
-    spots: &[Spot],
+    spots: &Spots,
     seen: &[Spot],
 ) -> Result<Sequence<Shape>, NoMemory>
     requires narrow { IsNarrow setting.now }
@@ -109,9 +110,9 @@ fn back_of(
     ensures { IfOk result (λ back. back ≡ back_of setting.now rows ties.now spots.now) }
 {
     let mut back = Vec::new(alloc);
-    put_ground(&mut back, setting, rows, spots, seen)?;
-    put_bands(&mut back, setting, rows, spots)?;
-    put_bars(&mut back, rows, spots)?;
+    put_ground(&mut back, setting, rows, spots.as_slice(), seen)?;
+    put_bands(&mut back, setting, rows, spots.as_slice())?;
+    put_bars(&mut back, rows, spots.as_slice())?;
     put_loops(&mut back, spots, ties)?;
     put_signals(&mut back, spots, ties)?;
     put_comings(&mut back, spots, seen)?;
@@ -149,12 +150,12 @@ fn back_with(
     setting: &Setting,
     rows: u16,
     ties: &[Tie],
-    standing: &[Spot],
+    standing: &Spots,
 ) -> Result<Sequence<Shape>, NoMemory>
     requires { IsNarrow setting.now }
     ensures { IfOk result (λ back. back ≡ back_of setting.now rows ties.now standing.now) }
 {
-    let seen = seen_of(alloc, standing)?;
+    let seen = seen_of(alloc, standing.as_slice())?;
     back_of(alloc, setting, rows, ties, standing, &seen)
 }
 
@@ -166,7 +167,7 @@ fn picture_of(
     ties: &[Tie],
     lines: &[Blob],
     spots: &[Spot],
-    standing: &[Spot],
+    standing: &Spots,
 ) -> Result<Picture, NoMemory>
     requires narrow { IsNarrow setting.now }
     requires standing { standing.now ≡ standing_of spots.now }
@@ -197,7 +198,7 @@ fn rows_with(above: bool, begun: usize) -> u16
 fn drawn_ties(
     alloc: Global,
     view: &View,
-    standing: &[Spot],
+    standing: &Spots,
     ties: &[Tie],
 ) -> Result<Vec<Tie>, NoMemory>
     ensures { IfOk result (λ drawn. drawn.items
@@ -225,7 +226,7 @@ fn drawing_of(
     let marks = chart.marks.as_slice();
     let above = has_above(steps_seen(setting.view.steps), marks);
     let spots = spots_from(alloc, setting, rows_with(above, 0), marks)?;
-    let standing = standing_of(alloc, &spots)?;
+    let standing = Spots::of(standing_of(alloc, &spots)?);
     let ties = drawn_ties(alloc, &setting.view, &standing, chart.ties.as_slice())?;
     let picture = picture_of(
         alloc,

@@ -28,6 +28,7 @@ mod runs;
 mod seen;
 mod setting;
 mod spot;
+mod spots;
 mod view;
 
 pub use captions::{cut, label_class};

@@ -1,19 +1,19 @@
 //! Where each mark stands.
 ghost use Rattle.std.specs.Prelude.{◌≡◌, ◌++◌, List, OnOk, IfOk, slice_get, not, false, Some};
 ghost use Rattle.std.specs.Option.{option_copied};
-ghost use Rattle.linx_base.specs.Peers.{same_position};
 ghost use Rattle.chart_drawing.specs.Layout.{IsNarrow};
 ghost use Rattle.chart_drawing.specs.Spots.{spot_of, spot_if, spots_from, standing_of, seen_of};
-ghost use Rattle.chart_drawing.specs.Spots.{spot_at, same_column, is_spot_of, is_tie_of, ties_of};
+ghost use Rattle.chart_drawing.specs.Spots.{same_column, is_spot_of, is_tie_of, ties_of};
 
 use crate::columns::{column_left, is_turned};
 use crate::fold::{is_effect_first, is_folded, quiet_with, row_behind, row_of_mark};
 use crate::seen::stands_in;
 use crate::setting::Setting;
+use crate::spots::Spots;
 use crate::view::{View, is_of_makers, is_seen};
 use chart::{Column, Mark, Tie};
 use journal::By;
-use linx_base::{ItemAt, NoMemory};
+use linx_base::NoMemory;
 use std::alloc::Global;
 
 /// Where a mark stands: its place among all, its row, whether it is seen, whether it shares the row of
@@ -116,20 +116,6 @@ pub(crate) fn seen_of(alloc: Global, spots: &[Spot]) -> Result<Vec<Spot>, NoMemo
     Ok(seen)
 }
 
-/// Whether both are the same line.
-fn same_line(one: ItemAt, other: ItemAt) -> bool
-    ensures { result ≡ same_position one other }
-{
-    one.step == other.step && one.place == other.place
-}
-
-/// The spot of a line.
-pub(crate) fn spot_at(spots: &[Spot], line: ItemAt) -> Option<&Spot>
-    ensures { option_copied result ≡ spot_at spots.now line }
-{
-    spots.iter().find(|spot| same_line(spot.mark.line, line))
-}
-
 /// Whether there is a spot, and its mark is of one of these makers.
 fn is_spot_of(makers: &[By], spot: Option<&Spot>) -> bool
     ensures { result ≡ is_spot_of makers.now (option_copied spot.entry) }
@@ -141,14 +127,14 @@ fn is_spot_of(makers: &[By], spot: Option<&Spot>) -> bool
 }
 
 /// Whether one of the marks that a tie joins is of one of these makers.
-fn joins(makers: &[By], spots: &[Spot], tie: &Tie) -> bool
+fn joins(makers: &[By], spots: &Spots, tie: &Tie) -> bool
     ensures { result ≡ is_tie_of (Some makers.now) spots.now tie.now }
 {
-    is_spot_of(makers, spot_at(spots, tie.from)) || is_spot_of(makers, spot_at(spots, tie.to))
+    is_spot_of(makers, spots.at(tie.from)) || is_spot_of(makers, spots.at(tie.to))
 }
 
 /// Whether one of them is of a maker that is asked for, if any are.
-fn is_tie_of(view: &View, spots: &[Spot], tie: &Tie) -> bool
+fn is_tie_of(view: &View, spots: &Spots, tie: &Tie) -> bool
     ensures { result ≡ is_tie_of view.now.of spots.now tie.now }
 {
     match &view.of {
@@ -158,7 +144,7 @@ fn is_tie_of(view: &View, spots: &[Spot], tie: &Tie) -> bool
 }
 
 /// The ties that join a mark of those that are asked for.
-pub(crate) fn ties_of(ties: Vec<Tie>, view: &View, spots: &[Spot]) -> Vec<Tie>
+pub(crate) fn ties_of(ties: Vec<Tie>, view: &View, spots: &Spots) -> Vec<Tie>
     ensures { result.items ≡ ties_of view.now.of spots.now ties.items }
 {
     let mut kept = ties;

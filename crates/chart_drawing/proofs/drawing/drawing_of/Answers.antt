@@ -16,8 +16,8 @@ returns-clause-one_row_each c =
     let marks = c.args.chart.now.marks in
     let first = c.rows_with.result in
     let lines = c.as_slice-2.result.now in
-    let spots : c.deref-4.result.now ≡ spots_from setting 0 first false marks =
-    c.deref-4.ensures.value ∙ c.in_ok-spots.ensures
+    let spots : c.deref-3.result.now ≡ spots_from setting 0 first false marks =
+    c.deref-3.ensures.value ∙ c.in_ok-spots.ensures
     ∙ ap (λ (l : List Mark). spots_from setting 0 first false l) c.as_slice-marks.ensures in
     let rows : c.in_ok-picture.picture.rows
     ≡ rows_of setting lines (seen_of (spots_from setting 0 first false marks)) =
