@@ -98,7 +98,7 @@ light_ground =
     ++ codes ".row:hover .hit,.lit .hit{fill:#e69f00;fill-opacity:.2}\n"
     ++ codes ".front{pointer-events:none}\n"
     ++ codes ".label,.faint,.strong,.wrong-label{paint-order:stroke;stroke:#f6f9fc;"
-    ++ codes "stroke-width:4px;stroke-linejoin:round}\n"
+    ++ codes "stroke-width:9px;stroke-linejoin:round}\n"
 
 -- what is otherwise in a dark one
 unfoldable pub dark_ground : List ℕ

@@ -17,7 +17,7 @@ pub(crate) fn light_ground() -> &'static [u8]
       .row:hover .hit,.lit .hit{fill:#e69f00;fill-opacity:.2}\n\
       .front{pointer-events:none}\n\
       .label,.faint,.strong,.wrong-label{paint-order:stroke;stroke:#f6f9fc;\
-      stroke-width:4px;stroke-linejoin:round}\n"
+      stroke-width:9px;stroke-linejoin:round}\n"
 }
 
 /// What is otherwise in a dark one.
@@ -153,7 +153,7 @@ pub(crate) fn light(class: Class) -> &'static [u8]
         Class::Strong => b"fill:#222;font-weight:700",
         Class::WrongLabel => b"fill:#b04400;font-weight:700",
         Class::Line => b"fill:#667",
-        Class::Effect => b"fill:#99a",
+        Class::Effect => b"fill:#737385",
         Class::Hit => b"fill:#fff;fill-opacity:0",
     }
 }
@@ -196,7 +196,7 @@ pub(crate) fn dark(class: Class) -> &'static [u8]
         Class::Strong => b"fill:#e4e6e8;stroke:#181d23",
         Class::WrongLabel => b"fill:#ff9d5c;stroke:#181d23",
         Class::Line => b"fill:#98a2ae",
-        Class::Effect => b"fill:#737d88",
+        Class::Effect => b"fill:#7f8995",
         Class::Hit => b"fill:#fff",
     }
 }
