@@ -147,20 +147,20 @@ is-get (x ∷ xs) zero v less is = ap (λ (z : _). Some z) (sym is)
 is-get (x ∷ xs) (suc k) v less is = is-get xs k v (omega arith) is
 
 -- EACH OF A LIST, changed place by place
-module _ (old now : List LineSoFar) (links : List LinkDecl) (s : Step) (place : ℕ)
+module _ (old now : List LineSoFar) (links : List LinkDecl) (me : Option Inc) (s : Step) (place : ℕ)
     (new was : LineSoFar) (mine : LinkDecl) (less : place < length now)
     (done : (k : ℕ) (x : LineSoFar) (ends : LinkDecl) → k < place → slice_get old k ≡ Some x
-    → slice_get links k ≡ Some ends → slice_get now k ≡ Some (line_after (suc k) ends s x))
+    → slice_get links k ≡ Some ends → slice_get now k ≡ Some (line_after (suc k) ends me s x))
     (rest : (k : ℕ) → place ≤ k → slice_get now k ≡ slice_get old k)
     (was_is : slice_get now place ≡ Some was) (mine_is : slice_get links place ≡ Some mine)
-    (is : new ≡ line_after (suc place) mine s was) where
+    (is : new ≡ line_after (suc place) mine me s was) where
   pub pass-more : (k : ℕ) (x : LineSoFar) (ends : LinkDecl) → k < place + 1
       → slice_get old k ≡ Some x → slice_get links k ≡ Some ends
-      → slice_get (slice_set now place new) k ≡ Some (line_after (suc k) ends s x)
+      → slice_get (slice_set now place new) k ≡ Some (line_after (suc k) ends me s x)
   pass-more k x ends under read link = go (place == k) refl
     where
       go : (b : Bool) → (place == k) ≡ b
-          → slice_get (slice_set now place new) k ≡ Some (line_after (suc k) ends s x)
+          → slice_get (slice_set now place new) k ≡ Some (line_after (suc k) ends me s x)
       go true e =
           let same : place ≡ k = eqb-true place k e in
           let one : (let o : Option LineSoFar = Some was in o) ≡ Some x =
@@ -170,10 +170,10 @@ module _ (old now : List LineSoFar) (links : List LinkDecl) (s : Step) (place : 
           sym mine_is ∙ ap (slice_get links) same ∙ link in
           let mine_ends : mine ≡ ends = cc in
           subst (λ (j : ℕ). slice_get (slice_set now place new) j
-          ≡ Some (line_after (suc j) ends s x)) same
+          ≡ Some (line_after (suc j) ends me s x)) same
           (get-set now place new less
           ∙ ap (λ (y : LineSoFar). Some y)
-          (is ∙ (λ i. line_after (suc place) (mine_ends i) s (was_x i))))
+          (is ∙ (λ i. line_after (suc place) (mine_ends i) me s (was_x i))))
       go false e =
           let other : place ≢ k = λ same. true≢false (sym (eq-eqb place k same) ∙ e) in
           get-other now place k new other ∙ done k x ends (omega (arith, under, other)) read link

@@ -18,6 +18,8 @@ pub mod Legal
 pub mod Nodes
 pub mod Steps
 pub mod AtLinks
+pub mod Stirs
+pub mod Fresh
 pub mod Rests
 pub mod Told
 pub mod Judging

@@ -37,7 +37,7 @@ use Rattle.link_laws.specs.Laws.{KeepsTicks, delivers, loses, stays}
 use Rattle.link_laws.specs.Sessions.{cut_after, ends_session, is_cut, restarts, tells_heard, ticks}
 use Rattle.link_tables.specs.Sides.{pair_past, side_left, up_pair}
 use Rattle.link_check.specs.Lines.{line_after, line_left, line_past, touches}
-use Rattle.link_check.specs.Rest.{rests_left}
+use Rattle.link_check.specs.Rest.{stirred_left}
 use Rattle.link_check.proofs.Heads.{AreHere, here-founds, here-head, here-notices}
 
 module _ (link : ℕ) where
@@ -196,23 +196,23 @@ module _ (link : ℕ) where
         ) refl
 
     line-stays : (ends : LinkDecl) → line_left (s ∷ P) link ends
-        ≡ record (line_left P link ends) { rests = rests_left (s ∷ P) link ends }
+        ≡ record (line_left P link ends) { stirred = stirred_left (s ∷ P) link ends }
     line-stays ends = λ i. record {
       first = side-stays ends.first.0 First i;
       second = side-stays ends.second.0 Second i;
       cut = no-cut (is_cut P link) s.head off i;
-      rests = rests_left (s ∷ P) link ends;
+      stirred = stirred_left (s ∷ P) link ends;
     }
 
   -- A LEGAL STEP, of the link or not, makes of it what is kept
   pub line-follows : (shape : Shape) (s : Step) (P : List Step) → IsLegalStep shape P s
       → (ends : LinkDecl)
-      → line_left (s ∷ P) link ends ≡ line_after link ends s (line_left P link ends)
+      → line_left (s ∷ P) link ends ≡ line_after link ends (endpoint_by P s.by) s (line_left P link ends)
   line-follows shape s P legal ends = go (touches link s.head) refl
     where
       go : (b : Bool) → touches link s.head ≡ b
           → line_left (s ∷ P) link ends
           ≡ record (if b then line_past link ends s (line_left P link ends)
-          else line_left P link ends) { rests = rests_left (s ∷ P) link ends }
+          else line_left P link ends) { stirred = stirred_left (s ∷ P) link ends }
       go true off = refl
       go false off = line-stays s P off (step-off shape P s legal off) ends

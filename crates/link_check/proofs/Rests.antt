@@ -1,16 +1,16 @@
--- A LINK THAT RESTS IS STILL: a step that doesn't stir it leaves what its stillness is read from.
-use Rattle.std.proofs.Common.{◌≡◌, ℕ, zero, suc, Bool, true, false, not, ◌&&◌, ◌||◌, ◌==◌, List, []}
-use Rattle.std.proofs.Common.{◌∷◌, ◌++◌, length, filter, fold, Option, Some, None, inl, inr, refl, sym}
-use Rattle.std.proofs.Common.{◌∙◌, ap, subst, append-nil, true≢false, if◌then◌else◌, cond}
+-- A LINK IS STILL BUT FOR WHAT WAS STIRRED since a receive that found none: so it is still where all
+-- of that is settled.
+use Rattle.std.proofs.Common.{◌≡◌, ℕ, suc, ◌<◌, Bool, true, false, not, ◌||◌, ◌==◌, List}
+use Rattle.std.proofs.Common.{[], ◌∷◌, ◌++◌, length, Option, Some, None, inl, inr, ◌⊎◌, refl}
+use Rattle.std.proofs.Common.{sym, ◌∙◌, ap, subst, append-nil, true≢false, if◌then◌else◌, arith}
 use Rattle.std.specs.List.{list_any, filter_map, AllByRecursion}
-use Rattle.std.proofs.lemmas.Bool.{and_parts, or_cases, or_left, or_right, not-true}
-use Rattle.std.proofs.lemmas.Bool.{false_from_ne_true}
+use Rattle.std.specs.Option.{option_to_list}
+use Rattle.std.proofs.lemmas.Bool.{or_left, or_right, false_from_ne_true}
 use Rattle.std.proofs.lemmas.List.Elements.{filter_map-append}
 use Rattle.std.proofs.lemmas.List.Folds.{list_any-append}
-use Rattle.keyed_list.proofs.Finding.{flipped}
+use Rattle.linx_base.specs.Fronts.{IsFront}
 use Rattle.linx_base.specs.Numbers.{is_on}
-use Rattle.linx_base.specs.Peers.{same_inc, same_peer}
-use Rattle.linx_base.specs.Pending.{is_for, is_of_session}
+use Rattle.linx_base.specs.Pending.{is_for}
 use Rattle.linx_base.specs.SigNotes.{SigNote}
 use Rattle.linx_base.specs.declared.frame.LinkDecl.{LinkDecl}
 use Rattle.linx_base.specs.declared.identity.Inc.{Inc}
@@ -19,426 +19,404 @@ use Rattle.linx_base.specs.declared.identity.Peer.{Peer}
 use Rattle.linx_base.specs.declared.identity.Peer.TheVariants.{Here, There}
 use Rattle.linx_base.specs.declared.identity.Session.{Session}
 use Rattle.linx_base.specs.declared.identity.Side.TheVariants.{First, Second}
-use Rattle.linx_base.specs.declared.name.Path.{Path}
-use Rattle.linx_base.specs.declared.name.Path.TheVariants.{Local, Over}
-use Rattle.linx_base.specs.declared.pending.MetPeer.{MetPeer}
+use Rattle.linx_base.specs.declared.name.Path.TheVariants.{Over}
 use Rattle.linx_base.specs.declared.pending.PendingHunt.{PendingHunt}
-use Rattle.journal.specs.declared.effect.Effect.{Effect}
-use Rattle.journal.specs.declared.effect.Effect.TheVariants as effects
 use Rattle.journal.specs.declared.effect.Step.{Step}
 use Rattle.journal.specs.declared.head.Head.{Head}
 use Rattle.journal.specs.declared.head.Head.TheVariants as heads
-use Rattle.journal.specs.declared.head.SentTo.{SentTo}
-use Rattle.journal.specs.History.{closes, effects_of, endpoint_by, name_of, name_in, name_or_none}
-use Rattle.journal.specs.History.{open_endpoints, opened_by, opened_in, opens, opening_name}
-use Rattle.journal.specs.Living.{is_alive, living, living_after}
+use Rattle.journal.specs.History.{effects_of, endpoint_by, name_of, open_endpoints, opens}
+use Rattle.journal.specs.Living.{is_alive, is_met, living}
 use Rattle.journal.specs.Pending.{ends_hunt, hunt_in, hunting}
-use Rattle.journal.specs.Sessions.{session_past, up_session}
+use Rattle.journal.specs.Sessions.{up_session}
 use Rattle.journal.specs.Shapes.{Shape}
-use Rattle.journal.specs.Traffic.{arrival_in, arrived_from, is_endpoint, sent_by, sent_to, was_sent}
+use Rattle.journal.specs.Traffic.{arrival_in, arrived_from, is_endpoint, sent_by, sent_to}
 use Rattle.link_laws.specs.Ends.{IsLinkOf, end_or_0, link_at, node_at}
 use Rattle.link_laws.specs.Laws.{IsLegal, KeepsRest}
-use Rattle.link_laws.specs.Sessions.{cut_after, is_cut, paired_after, paired_session}
-use Rattle.link_laws.specs.Still.{AllGot, HuntsAnswered, IsStill, IsStillHalf, IsStillWhole}
-use Rattle.link_laws.specs.Still.{PeersOpen, cut, is_open_there, whole}
-use Rattle.link_laws.proofs.Endpoints.OpenAfterStep.{open-on}
-use Rattle.link_check.specs.Rest.{finds_none, is_stir, is_stirring, rests_left, stirs}
-use Rattle.link_check.proofs.Off.{AreOff, and-false, off-session}
+use Rattle.link_laws.specs.Sessions.{is_cut, paired_session}
+use Rattle.link_laws.specs.Still.{IsStill, IsStillHalf}
+use Rattle.link_laws.specs.Still.{cut, is_open_there, whole}
+use Rattle.link_check.specs.Orderly.{IsOrderly}
+use Rattle.link_check.specs.Rest.{changes, finds_none, is_at_end, is_rough, moves, stir_by, stir_in}
+use Rattle.link_check.specs.Rest.{HasGot, IsAnswered, IsSettledHalf, stirred_left, stirs_of}
+use Rattle.link_check.specs.Rest.{with_more}
+use Rattle.link_check.specs.declared.rest.Stir.{Stir}
+use Rattle.link_check.specs.declared.rest.Stir.TheVariants.{Sent, Doubted, Hunted, Offered}
+use Rattle.link_check.proofs.Fresh.{unsent}
+use Rattle.link_check.proofs.Legal.{legal-orderly}
 use Rattle.link_check.proofs.Ones.{any-kept}
 use Rattle.link_check.proofs.Sendings.{among, each-all}
-use Rattle.link_check.proofs.Tests.{inc-is, inc-same}
+use Rattle.link_check.proofs.Stillness.{each-met, met-past, open-among}
+use Rattle.link_check.proofs.Tests.{link-is}
+use Rattle.link_check.proofs.Stirs.{In, hunt-stirs, in-front, in-more, met-stirs, none-first}
+use Rattle.link_check.proofs.Stirs.{none-rest, of-all, open-after, open-before, same-cut, same-name}
+use Rattle.link_check.proofs.Stirs.{same-pair, same-session, sent-stirs}
 
--- TESTS
-none-first : (a b : Bool) → (a || b) ≡ false → a ≡ false
-none-first true b is = is
-none-first false b is = refl
+module _ (P : List Step) (n m : ℕ) (l : LinkNo) (x y : Session) where
+  -- ONE DIRECTION IS STILL BUT FOR SOME that were stirred
+  pub record IsHalfBut (stirs : List Stir) : Type 0 where
+    pub up : up_session P n l.0 ≡ Some x
+    pub pair : paired_session P n l.0 x ≡ Some y
+    pub got : (a b : Inc) → is_alive P m (Here a) ≡ true → is_alive P n (Here b) ≡ true
+        → HasGot P l x y a b ⊎ In (Sent a b) stirs
+    pub peers : (z : Session) (i : Inc) → is_met (living P n) (There l z i) ≡ true
+        → (is_alive P m (Here i) ≡ true) ⊎ In (Doubted i) stirs
+    pub hunts : (i : Inc) → is_alive P m (Here i) ≡ true
+        → IsAnswered P n l i ⊎ (In (Hunted (name_of P i)) stirs ⊎ In (Offered i) stirs)
 
-none-rest : (a b : Bool) → (a || b) ≡ false → b ≡ false
-none-rest true b is = absurd (true≢false is)
-none-rest false b is = is
+  -- where it is still, it is so but for none
+  pub half-but : IsStillHalf P n m l x y → IsHalfBut []
+  half-but half = record {
+    up = half.up;
+    pair = half.pair;
+    got = λ a b sender receiver. inl (among (HasGot P l x y a) b (open_endpoints P n)
+        (among (λ (i : Inc). AllByRecursion (HasGot P l x y i) (open_endpoints P n)) a (open_endpoints P m)
+        half.all_got sender) receiver);
+    peers = λ z i lives. inl (open-among P m l z i (living P n) half.peers_open lives);
+    hunts = λ i open_. inl (among (IsAnswered P n l) i (open_endpoints P m) half.hunts_answered open_);
+  }
 
-never : (b : Bool) → (b && false) ≡ false
-never true = refl
-never false = refl
-
--- WHAT DOESN'T STIR A LINK is off it, and opens and closes nothing at its nodes
-abbrev pub IsCalmAt : ℕ → Effect → Type 0
-IsCalmAt n (effects.Opened i) = is_on n i ≡ false
-IsCalmAt n (effects.Closed i) = is_on n i ≡ false
-IsCalmAt n _ = Unit {0}
-
-abbrev pub AreCalmAt : ℕ → List Effect → Type 0
-AreCalmAt n es = AllByRecursion (IsCalmAt n) es
-
-module _ (link : ℕ) (ends : LinkDecl) where
-  off-of : (es : List Effect) → list_any (is_stir link ends) es ≡ false → AreOff link es
-  off-of [] calm = tt
-  off-of (effects.Up n l x y ∷ es) calm =
-      (none-first (l.0 == link) _ calm, off-of es (none-rest (l.0 == link) _ calm))
-  off-of (effects.Down n l x ∷ es) calm =
-      (none-first (l.0 == link) _ calm, off-of es (none-rest (l.0 == link) _ calm))
-  off-of (effects.Met n (There l x i) name ∷ es) calm =
-      (none-first (l.0 == link) _ calm, off-of es (none-rest (l.0 == link) _ calm))
-  off-of (effects.Gone n (There l x i) ∷ es) calm =
-      (none-first (l.0 == link) _ calm, off-of es (none-rest (l.0 == link) _ calm))
-  off-of (effects.Arrived b (There l x i) note ∷ es) calm =
-      (none-first (l.0 == link) _ calm, off-of es (none-rest (l.0 == link) _ calm))
-  off-of (effects.Met n (Here i) name ∷ es) calm = (tt, off-of es calm)
-  off-of (effects.Gone n (Here i) ∷ es) calm = (tt, off-of es calm)
-  off-of (effects.Arrived b (Here i) note ∷ es) calm = (tt, off-of es calm)
-  off-of (e ∷ es) calm = (tt, off-of es (none-rest (is_stir link ends e) _ calm))
-
-  calm-first : (es : List Effect) → list_any (is_stir link ends) es ≡ false
-      → AreCalmAt ends.first.0 es
-  calm-first [] calm = tt
-  calm-first (effects.Opened i ∷ es) calm = (
-    none-first (is_on ends.first.0 i) (is_on ends.second.0 i)
-        (none-first (is_on ends.first.0 i || is_on ends.second.0 i) _ calm),
-    calm-first es (none-rest (is_on ends.first.0 i || is_on ends.second.0 i) _ calm),
-  )
-  calm-first (effects.Closed i ∷ es) calm = (
-    none-first (is_on ends.first.0 i) (is_on ends.second.0 i)
-        (none-first (is_on ends.first.0 i || is_on ends.second.0 i) _ calm),
-    calm-first es (none-rest (is_on ends.first.0 i || is_on ends.second.0 i) _ calm),
-  )
-  calm-first (e ∷ es) calm = (tt, calm-first es (none-rest (is_stir link ends e) _ calm))
-
-  calm-second : (es : List Effect) → list_any (is_stir link ends) es ≡ false
-      → AreCalmAt ends.second.0 es
-  calm-second [] calm = tt
-  calm-second (effects.Opened i ∷ es) calm = (
-    none-rest (is_on ends.first.0 i) (is_on ends.second.0 i)
-        (none-first (is_on ends.first.0 i || is_on ends.second.0 i) _ calm),
-    calm-second es (none-rest (is_on ends.first.0 i || is_on ends.second.0 i) _ calm),
-  )
-  calm-second (effects.Closed i ∷ es) calm = (
-    none-rest (is_on ends.first.0 i) (is_on ends.second.0 i)
-        (none-first (is_on ends.first.0 i || is_on ends.second.0 i) _ calm),
-    calm-second es (none-rest (is_on ends.first.0 i || is_on ends.second.0 i) _ calm),
-  )
-  calm-second (e ∷ es) calm = (tt, calm-second es (none-rest (is_stir link ends e) _ calm))
-
--- ENDPOINTS of a calm node: none is opened, and none of its own is closed
-module _ (n : ℕ) where
-  none-opened : (es : List Effect) → AreCalmAt n es → opened_by n es ≡ []
-  none-opened [] calm = refl
-  none-opened (effects.Opened i ∷ es) calm = rw (calm.0) (none-opened es calm.1)
-  none-opened (_ ∷ es) calm = none-opened es calm.1
-
-  differs : (i j : Inc) → is_on n i ≡ true → is_on n j ≡ false → same_inc i j ≡ false
-  differs i j on off =
-      false_from_ne_true (same_inc i j) (λ same. true≢false (sym on
-      ∙ ap (is_on n) (inc-is i j same) ∙ off))
-
-  none-closed : (i : Inc) → is_on n i ≡ true → (es : List Effect) → AreCalmAt n es
-      → list_any (closes i) es ≡ false
-  none-closed i on [] calm = refl
-  none-closed i on (effects.Closed j ∷ es) calm =
-      rw (differs i j on calm.0) (none-closed i on es calm.1)
-  none-closed i on (_ ∷ es) calm = none-closed i on es calm.1
-
-  not-opened : (i : Inc) → is_on n i ≡ true → (es : List Effect) → AreCalmAt n es
-      → list_any (opens i) es ≡ false
-  not-opened i on [] calm = refl
-  not-opened i on (effects.Opened j ∷ es) calm =
-      rw (differs i j on calm.0) (not-opened i on es calm.1)
-  not-opened i on (_ ∷ es) calm = not-opened i on es calm.1
-
-  all-kept : (keep : Inc → Bool) (incs : List Inc)
-      → ((i : Inc) → list_any (same_inc i) incs ≡ true → keep i ≡ true) → filter keep incs ≡ incs
-  all-kept keep [] each = refl
-  all-kept keep (j ∷ incs) each =
-      rw (each j (or_left (same_inc j j) (list_any (same_inc j) incs) (inc-same j)))
-      (ap (λ (is : List Inc). j ∷ is) (all-kept keep incs (λ i is. each i
-      (or_right (same_inc i j) (list_any (same_inc i) incs) is))))
-
-  module _ (s : Step) (P : List Step) (calm : AreCalmAt n s.effects) where
-    pub open-stays : open_endpoints (s ∷ P) n ≡ open_endpoints P n
-    open-stays =
-        ap (λ (more : List Inc). filter (λ i. not (list_any (closes i) s.effects))
-        (open_endpoints P n ++ more)) (none-opened s.effects calm)
-        ∙ ap (λ (incs : List Inc). filter (λ i. not (list_any (closes i) s.effects)) incs)
-        (append-nil (open_endpoints P n))
-        ∙ all-kept (λ i. not (list_any (closes i) s.effects)) (open_endpoints P n)
-        (λ i is. ap not (none-closed i (open-on P n i is) s.effects calm))
-
-    pub name-stays : (i : Inc) → is_on n i ≡ true → name_of (s ∷ P) i ≡ name_of P i
-    name-stays i on =
-        ap (λ (b : Bool). name_or_none (if b then name_in s.head else opening_name P i))
-        (not-opened i on s.effects calm)
-
--- WHAT SPEAKS OF NO PEER OVER THE LINK leaves its pairs, and what arrived over it
-module _ (l : LinkNo) where
-  off-paired : (n : ℕ) (x : Session) (es : List Effect) → AreOff l.0 es → (pair : Option Session)
-      → fold (paired_after n l.0 x) pair es ≡ pair
-  off-paired n x [] off pair = refl
-  off-paired n x (effects.Up k h z y ∷ es) off pair =
-      rw (and-false l.0 (k.0 == n) (h.0 == l.0) off.0) (off-paired n x es off.1 pair)
-  off-paired n x (_ ∷ es) off pair = off-paired n x es off.1 pair
-
-  off-arrived : (b : Inc) (x : Session) (a : Inc) (es : List Effect) → AreOff l.0 es
-      → filter_map (arrival_in b (There l x a)) es ≡ []
-  off-arrived b x a [] off = refl
-  off-arrived b x a (effects.Arrived c (There k y i) note ∷ es) off =
-      rw (off.0, never (same_inc c b)) (off-arrived b x a es off.1)
-  off-arrived b x a (effects.Arrived c (Here i) note ∷ es) off =
-      rw (never (same_inc c b)) (off-arrived b x a es off.1)
-  off-arrived b x a (_ ∷ es) off = off-arrived b x a es off.1
-
-  -- and what is sent over it, where its head doesn't stir the link
-  off-sent : (y : Session) (b : Inc) (head : Head) → is_stirring l.0 head ≡ false
-      → sent_by (There l y b) head ≡ []
-  off-sent y b (heads.Send (There k z i) note answer) calm =
-      rw (calm, never (was_sent answer)) refl
-  off-sent y b (heads.Send (Here i) note answer) calm = rw (never (was_sent answer)) refl
-  off-sent y b _ calm = refl
-
-  no-cut : (before : Bool) (head : Head) → is_stirring l.0 head ≡ false
-      → cut_after l.0 before head ≡ before
-  no-cut before (heads.Cut k) calm = rw calm refl
-  no-cut before (heads.Mend k) calm = rw calm refl
-  no-cut before _ calm = refl
-
-  -- HUNTS over the link
-  no-hunt : (n k : ℕ) (me : Option Inc) (head : Head) → is_stirring l.0 head ≡ false
-      → (name : List ℕ) → list_any (is_for (Over l name)) (hunt_in n k me head) ≡ false
-  no-hunt n k None (heads.Hunt path note) calm name = refl
-  no-hunt n k (Some j) (heads.Hunt (Local v) note) calm name = by_test (is_on n j)
+  -- and where those that were stirred are settled, it is still
+  module _ (stirs : List Stir) (but : IsHalfBut stirs) (all : AllByRecursion (IsSettledHalf P n m l x y) stirs)
     where
-      by_test : (b : Bool) → list_any (is_for (Over l name)) (if b then (record {
-        at = j;
-        path = Local v;
-        signal = note;
-        number = k;
-      }) ∷ [] else []) ≡ false
-      by_test true = refl
-      by_test false = refl
-  no-hunt n k (Some j) (heads.Hunt (Over h v) note) calm name = by_test (is_on n j)
-    where
-      other : (l.0 == h.0) ≡ false
-      other = flipped l.0 h.0 ∙ calm
+      got-all : (a b : Inc) → is_alive P m (Here a) ≡ true → is_alive P n (Here b) ≡ true → HasGot P l x y a b
+      got-all a b sender receiver =
+          elim (but.got a b sender receiver) [
+            | inl got ↦ got
+            | inr stirred ↦ of-all (IsSettledHalf P n m l x y) (Sent a b) stirs all stirred sender receiver
+          ]
 
-      by_test : (b : Bool) → list_any (is_for (Over l name)) (if b then (record {
-        at = j;
-        path = Over h v;
-        signal = note;
-        number = k;
-      }) ∷ [] else []) ≡ false
-      by_test true = rw other refl
-      by_test false = refl
-  no-hunt n k me _ calm name = refl
+      open-all : (q : Peer) → is_met (living P n) q ≡ true → is_open_there P m l q ≡ true
+      open-all (Here i) lives = refl
+      open-all (There k z i) lives = go (k.0 == l.0) refl
+        where
+          this : is_met (living P n) (There l z i) ≡ true → is_alive P m (Here i) ≡ true
+          this met =
+              elim (but.peers z i met) [
+                | inl open_ ↦ open_
+                | inr stirred ↦ of-all (IsSettledHalf P n m l x y) (Doubted i) stirs all stirred z met
+              ]
 
-  abbrev more : Step → List Step → ℕ → List PendingHunt
-  more s P n = hunt_in n (suc (length P)) (endpoint_by P s.by) s.head
+          go : (b : Bool) → (k.0 == l.0) ≡ b → (not (k.0 == l.0) || is_alive P m (Here i)) ≡ true
+          go true same =
+              or_right (not (k.0 == l.0)) (is_alive P m (Here i))
+              (this (subst (λ (h : LinkNo). is_met (living P n) (There h z i) ≡ true)
+              (link-is k l same) lives))
+          go false same = or_left (not (k.0 == l.0)) (is_alive P m (Here i)) (ap not same)
 
-  hunts-stay : (s : Step) (P : List Step) (n : ℕ) → is_stirring l.0 s.head ≡ false
-      → (name : List ℕ) → list_any (is_for (Over l name)) (hunting P n) ≡ false
-      → list_any (is_for (Over l name)) (hunting (s ∷ P) n) ≡ false
-  hunts-stay s P n calm name none =
-      false_from_ne_true (list_any (is_for (Over l name)) (hunting (s ∷ P) n)) (λ any.
-      true≢false (sym (any-kept (is_for (Over l name)) (λ h. not (ends_hunt s.effects h))
-      (hunting P n ++ more s P n) any)
-      ∙ list_any-append (is_for (Over l name)) (hunting P n) (more s P n)
-      ∙ ap (λ (b : Bool). b || list_any (is_for (Over l name)) (more s P n)) none
-      ∙ no-hunt n (suc (length P)) (endpoint_by P s.by) s.head calm name))
+      answered-all : (i : Inc) → is_alive P m (Here i) ≡ true → IsAnswered P n l i
+      answered-all i open_ =
+          elim (but.hunts i open_) [
+            | inl answered ↦ answered
+            | inr stirred ↦ elim stirred [
+              | inl hunted ↦ of-all (IsSettledHalf P n m l x y) (Hunted (name_of P i)) stirs all hunted
+                  i open_ refl
+              | inr offered ↦ of-all (IsSettledHalf P n m l x y) (Offered i) stirs all offered open_
+            ]
+          ]
 
-  -- LIVING PEERS that are open across, or are of another link, stay so
-  module _ (P : List Step) (n m : ℕ) where
-    abbrev IsOpen : MetPeer → Type 0
-    IsOpen p = is_open_there P m l p.peer ≡ true
+      pub half-settled : IsStillHalf P n m l x y
+      half-settled = record {
+        up = but.up;
+        pair = but.pair;
+        all_got = each-all (λ (a : Inc). AllByRecursion (HasGot P l x y a) (open_endpoints P n))
+            (open_endpoints P m) (λ a sender. each-all (HasGot P l x y a) (open_endpoints P n)
+            (λ b receiver. got-all a b sender receiver));
+        peers_open = each-met (λ (q : Peer). is_open_there P m l q ≡ true) (living P n) open-all;
+        hunts_answered = each-all (IsAnswered P n l) (open_endpoints P m) answered-all;
+      }
 
-    fewer-open : (keep : MetPeer → Bool) (met : List MetPeer) → AllByRecursion IsOpen met
-        → AllByRecursion IsOpen (filter keep met)
-    fewer-open keep [] all = tt
-    fewer-open keep (p ∷ met) all = go (keep p) (fewer-open keep met all.1)
+-- what is longer than itself by some is so by none
+none-longer : {X : Type 0} (xs more later : List X) → xs ≡ (xs ++ more) ++ later → more ≡ []
+none-longer [] [] later is = refl
+none-longer [] (x ∷ more) later is = cc is
+none-longer (x ∷ xs) more later is =
+    let rest : xs ≡ (xs ++ more) ++ later = cc in
+    none-longer xs more later rest
+
+-- A STEP THAT ISN'T ROUGH leaves one direction still but for what it stirs
+module _ (s : Step) (P : List Step) (l : LinkNo) (ends : LinkDecl)
+    (calm : list_any (changes l.0) s.effects ≡ false) (n m : ℕ)
+    (near : (i : Inc) → is_on n i ≡ true → is_at_end ends i ≡ true)
+    (far : (i : Inc) → is_on m i ≡ true → is_at_end ends i ≡ true)
+    (orderly : IsOrderly (s ∷ P) n l) (fresh : (a b : Inc) (z : Session)
+    → (list_any (opens a) s.effects ≡ true) ⊎ (list_any (opens b) s.effects ≡ true)
+    → sent_to P a (There l z b) ≡ []) (x y : Session) (stirs : List Stir)
+    (but : IsHalfBut P n m l x y stirs) where
+  abbrev me : Option Inc
+  me = endpoint_by P s.by
+
+  abbrev first : List Stir
+  first = option_to_list (stir_by l.0 me s.head)
+
+  abbrev rest : List Stir
+  rest = filter_map (stir_in l.0 ends) s.effects
+
+  abbrev all : List Stir
+  all = stirs ++ stirs_of l.0 ends me s
+
+  old : (v : Stir) → In v stirs → In v all
+  old v is = in-front v stirs (stirs_of l.0 ends me s) is
+
+  of-head : (v : Stir) → In v first → In v all
+  of-head v is = in-more v stirs (stirs_of l.0 ends me s) (in-front v first rest is)
+
+  of-effects : (v : Stir) → In v rest → In v all
+  of-effects v is = in-more v stirs (stirs_of l.0 ends me s) (in-more v first rest is)
+
+  up-stays : up_session (s ∷ P) n l.0 ≡ Some x
+  up-stays = same-session l ends n s.effects calm (up_session P n l.0) ∙ but.up
+
+  pair-stays : paired_session (s ∷ P) n l.0 x ≡ Some y
+  pair-stays = same-pair l ends n x s.effects calm (paired_session P n l.0 x) ∙ but.pair
+
+  -- SIGNALS: where no more was sent, no more came
+  module _ (a b : Inc) (receiver : is_alive (s ∷ P) n (Here b) ≡ true) where
+    abbrev came : List SigNote
+    came = filter_map (arrival_in b (There l x a)) s.effects
+
+    arrived-is : arrived_from (s ∷ P) b (There l x a) ≡ arrived_from P b (There l x a) ++ came
+    arrived-is = filter_map-append (arrival_in b (There l x a)) (effects_of P) s.effects
+
+    abbrev sent_now : List SigNote
+    sent_now = if is_endpoint a me then sent_by (There l y b) s.head else []
+
+    front : IsFront (arrived_from (s ∷ P) b (There l x a)) (sent_to (s ∷ P) a (There l y b))
+    front = orderly.fronts x y up-stays pair-stays a b receiver
+
+    sent-is : sent_now ≡ [] → sent_to (s ∷ P) a (There l y b) ≡ sent_to P a (There l y b)
+    sent-is none =
+        ap (λ (notes : List SigNote). sent_to P a (There l y b) ++ notes) none
+        ∙ append-nil (sent_to P a (There l y b))
+
+    got-stays : HasGot P l x y a b → sent_now ≡ [] → HasGot (s ∷ P) l x y a b
+    got-stays got none =
+        let longer : arrived_from P b (There l x a)
+        ≡ (arrived_from P b (There l x a) ++ came) ++ front.0 =
+        got ∙ sym (sent-is none) ∙ front.1
+        ∙ ap (λ (notes : List SigNote). notes ++ front.0) arrived-is in
+        let no_more : came ≡ [] =
+        none-longer (arrived_from P b (There l x a)) came front.0 longer in
+        arrived-is
+        ∙ ap (λ (notes : List SigNote). arrived_from P b (There l x a) ++ notes) no_more
+        ∙ append-nil (arrived_from P b (There l x a)) ∙ got ∙ sym (sent-is none)
+
+    -- and where nothing was sent, nothing came
+    got-new : sent_to P a (There l y b) ≡ [] → sent_now ≡ [] → HasGot (s ∷ P) l x y a b
+    got-new nothing none =
+        let empty : sent_to (s ∷ P) a (There l y b) ≡ [] = sent-is none ∙ nothing in
+        none-longer [] (arrived_from (s ∷ P) b (There l x a)) front.0 (sym empty ∙ front.1)
+        ∙ sym empty
+
+    got-or : HasGot P l x y a b ⊎ (sent_to P a (There l y b) ≡ [])
+        → HasGot (s ∷ P) l x y a b ⊎ In (Sent a b) all
+    got-or either =
+        elim (sent-stirs l a b y me s.head) [
+          | inl none ↦ inl (elim either [
+            | inl got ↦ got-stays got none
+            | inr nothing ↦ got-new nothing none
+          ])
+          | inr stirred ↦ inr (of-head (Sent a b) stirred)
+        ]
+
+  got-after : (a b : Inc) → is_alive (s ∷ P) m (Here a) ≡ true → is_alive (s ∷ P) n (Here b) ≡ true
+      → HasGot (s ∷ P) l x y a b ⊎ In (Sent a b) all
+  got-after a b sender receiver =
+      elim (open-before l ends m far s P a sender) [
+        | inl one ↦ elim (open-before l ends n near s P b receiver) [
+          | inl two ↦ elim (but.got a b one.1 two.1) [
+            | inl got ↦ got-or a b receiver (inl got)
+            | inr stirred ↦ inr (old (Sent a b) stirred)
+          ]
+          | inr new ↦ got-or a b receiver (inr (fresh a b y (inr new.0)))
+        ]
+        | inr new ↦ got-or a b receiver (inr (fresh a b y (inl new.0)))
+      ]
+
+  -- PEERS
+  peers-after : (z : Session) (i : Inc) → is_met (living (s ∷ P) n) (There l z i) ≡ true
+      → (is_alive (s ∷ P) m (Here i) ≡ true) ⊎ In (Doubted i) all
+  peers-after z i lives =
+      elim (met-past n (There l z i) s.effects (living P n) lives) [
+        | inl was ↦ elim (but.peers z i was) [
+          | inl open_ ↦ elim (open-after l ends m far s P i open_) [
+            | inl stays ↦ inl stays
+            | inr stirred ↦ inr (of-effects (Doubted i) stirred)
+          ]
+          | inr stirred ↦ inr (old (Doubted i) stirred)
+        ]
+        | inr met ↦ inr (of-effects (Doubted i) (met-stirs l ends n z i s.effects met))
+      ]
+
+  -- HUNTS
+  module _ (name : List ℕ) where
+    abbrev is_sought : List PendingHunt → Bool
+    is_sought hunts = list_any (is_for (Over l name)) hunts
+
+    abbrev more : List PendingHunt
+    more = hunt_in n (suc (length P)) me s.head
+
+    answer-stays : is_sought (hunting P n) ≡ false
+        → (is_sought (hunting (s ∷ P) n) ≡ false) ⊎ In (Hunted name) all
+    answer-stays none = go (is_sought more) refl
       where
-        go : (b : Bool) → AllByRecursion IsOpen (filter keep met)
-            → AllByRecursion IsOpen (cond b (p ∷ filter keep met) (filter keep met))
-        go true rest = (all.0, rest)
-        go false rest = rest
+        go : (b : Bool) → is_sought more ≡ b
+            → (is_sought (hunting (s ∷ P) n) ≡ false) ⊎ In (Hunted name) all
+        go true is =
+            inr (of-head (Hunted name) (hunt-stirs l n (suc (length P)) name me s.head is))
+        go false is =
+            inl (false_from_ne_true (is_sought (hunting (s ∷ P) n)) (λ any.
+            true≢false (sym (any-kept (is_for (Over l name)) (λ h. not (ends_hunt s.effects h))
+            (hunting P n ++ more) any)
+            ∙ list_any-append (is_for (Over l name)) (hunting P n) more
+            ∙ ap (λ (b : Bool). b || is_sought more) none ∙ is)))
 
-    one-more : (p : MetPeer) → IsOpen p → (met : List MetPeer) → AllByRecursion IsOpen met
-        → AllByRecursion IsOpen (met ++ p ∷ [])
-    one-more p open_ [] all = (open_, tt)
-    one-more p open_ (q ∷ met) all = (all.0, one-more p open_ met all.1)
+  hunts-before : (i : Inc) → list_any (opens i) s.effects ≡ false → is_alive P m (Here i) ≡ true
+      → IsAnswered (s ∷ P) n l i ⊎ (In (Hunted (name_of (s ∷ P) i)) all ⊎ In (Offered i) all)
+  hunts-before i none was =
+      subst (λ (name : List ℕ). (list_any (is_for (Over l name)) (hunting (s ∷ P) n) ≡ false)
+      ⊎ (In (Hunted name) all ⊎ In (Offered i) all)) (sym (same-name s P i none))
+      (elim (but.hunts i was) [
+        | inl answered ↦ elim (answer-stays (name_of P i) answered) [
+          | inl stays ↦ inl stays
+          | inr stirred ↦ inr (inl stirred)
+        ]
+        | inr stirred ↦ elim stirred [
+          | inl hunted ↦ inr (inl (old (Hunted (name_of P i)) hunted))
+          | inr offered ↦ inr (inr (old (Offered i) offered))
+        ]
+      ])
 
-    after-one : (e : Effect) → AreOff l.0 (e ∷ []) → (met : List MetPeer)
-        → AllByRecursion IsOpen met → AllByRecursion IsOpen (living_after n met e)
-    after-one (effects.Met k (Here i) name) off met all = go (k.0 == n)
-      where
-        go : (b : Bool) → AllByRecursion IsOpen (if b then met
-            ++ (record { peer = Here i; name = name }) ∷ [] else met)
-        go true = one-more (record { peer = Here i; name = name }) refl met all
-        go false = all
-    after-one (effects.Met k (There h x i) name) off met all = go (k.0 == n)
-      where
-        go : (b : Bool) → AllByRecursion IsOpen (if b then met
-            ++ (record { peer = There h x i; name = name }) ∷ [] else met)
-        go true =
-            one-more (record { peer = There h x i; name = name })
-            (or_left (not (h.0 == l.0)) (is_alive P m (Here i)) (ap not off.0)) met all
-        go false = all
-    after-one (effects.Gone k q) off met all = go (k.0 == n)
-      where
-        go : (b : Bool) → AllByRecursion IsOpen
-            (if b then filter (λ p. not (same_peer q p.peer)) met else met)
-        go true = fewer-open (λ p. not (same_peer q p.peer)) met all
-        go false = all
-    after-one (effects.Down k h x) off met all = go (k.0 == n)
-      where
-        go : (b : Bool) → AllByRecursion IsOpen
-            (if b then filter (λ p. not (is_of_session h x p.peer)) met else met)
-        go true = fewer-open (λ p. not (is_of_session h x p.peer)) met all
-        go false = all
-    after-one _ off met all = all
+  hunts-after : (i : Inc) → is_alive (s ∷ P) m (Here i) ≡ true
+      → IsAnswered (s ∷ P) n l i ⊎ (In (Hunted (name_of (s ∷ P) i)) all ⊎ In (Offered i) all)
+  hunts-after i open_ =
+      elim (open-before l ends m far s P i open_) [
+        | inl was ↦ hunts-before i was.0 was.1
+        | inr new ↦ inr (inr (of-effects (Offered i) new.1))
+      ]
 
-    after-all : (es : List Effect) → AreOff l.0 es → (met : List MetPeer)
-        → AllByRecursion IsOpen met → AllByRecursion IsOpen (fold (living_after n) met es)
-    after-all [] off met all = all
-    after-all (e ∷ es) off met all =
-        after-all es off.1 (living_after n met e) (after-one e (off.0, tt) met all)
-
--- A STEP THAT DOESN'T STIR the link leaves each of its directions still
-map-all : {X : Type 0} (Q R : X → Type 0) (xs : List X) → ((x : X) → Q x → R x)
-    → AllByRecursion Q xs → AllByRecursion R xs
-map-all Q R [] each all = tt
-map-all Q R (x ∷ xs) each all = (each x all.0, map-all Q R xs each all.1)
-
-module _ (s : Step) (P : List Step) (l : LinkNo) (head : is_stirring l.0 s.head ≡ false)
-    (off : AreOff l.0 s.effects) where
-  up-stays : (n : ℕ) → up_session (s ∷ P) n l.0 ≡ up_session P n l.0
-  up-stays n = off-session l.0 n s.effects off (up_session P n l.0)
-
-  arrived-stays : (b : Inc) (x : Session) (a : Inc)
-      → arrived_from (s ∷ P) b (There l x a) ≡ arrived_from P b (There l x a)
-  arrived-stays b x a =
-      filter_map-append (arrival_in b (There l x a)) (effects_of P) s.effects
-      ∙ ap (λ (notes : List SigNote). arrived_from P b (There l x a) ++ notes)
-      (off-arrived l b x a s.effects off)
-      ∙ append-nil (arrived_from P b (There l x a))
-
-  sent-stays : (a : Inc) (y : Session) (b : Inc)
-      → sent_to (s ∷ P) a (There l y b) ≡ sent_to P a (There l y b)
-  sent-stays a y b =
-      ap (λ (notes : List SigNote). sent_to P a (There l y b)
-      ++ (if is_endpoint a (endpoint_by P s.by) then notes else []))
-      (off-sent l y b s.head head)
-      ∙ nothing (is_endpoint a (endpoint_by P s.by))
-    where
-      nothing : (t : Bool) → sent_to P a (There l y b) ++ (if t then [] else [])
-          ≡ sent_to P a (There l y b)
-      nothing true = append-nil (sent_to P a (There l y b))
-      nothing false = append-nil (sent_to P a (There l y b))
-
-  module _ (n m : ℕ) (here : AreCalmAt n s.effects) (there : AreCalmAt m s.effects)
-      (x y : Session) where
-    abbrev HasGot : List Step → Inc → Inc → Type 0
-    HasGot Q a b = arrived_from Q b (There l x a) ≡ sent_to Q a (There l y b)
-
-    got-stays : (a b : Inc) → HasGot P a b → HasGot (s ∷ P) a b
-    got-stays a b got = arrived-stays b x a ∙ got ∙ sym (sent-stays a y b)
-
-    all-got-stays : AllGot P n m l x y → AllGot (s ∷ P) n m l x y
-    all-got-stays all =
-        subst (λ (incs : List Inc). AllByRecursion (λ a. AllByRecursion (HasGot (s ∷ P) a)
-        (open_endpoints (s ∷ P) n)) incs) (sym (open-stays m s P there))
-        (subst (λ (incs : List Inc). AllByRecursion (λ a. AllByRecursion (HasGot (s ∷ P) a) incs)
-        (open_endpoints P m)) (sym (open-stays n s P here))
-        (map-all (λ a. AllByRecursion (HasGot P a) (open_endpoints P n))
-        (λ a. AllByRecursion (HasGot (s ∷ P) a) (open_endpoints P n)) (open_endpoints P m)
-        (λ a. map-all (HasGot P a) (HasGot (s ∷ P) a) (open_endpoints P n) (got-stays a)) all))
-
-    there-stays : (q : Peer) → is_open_there (s ∷ P) m l q ≡ is_open_there P m l q
-    there-stays (Here i) = refl
-    there-stays (There k z i) =
-        ap (λ (incs : List Inc). not (k.0 == l.0) || list_any (same_inc i) incs)
-        (open-stays m s P there)
-
-    peers-stay : PeersOpen P n m l → PeersOpen (s ∷ P) n m l
-    peers-stay all =
-        map-all (λ (p : MetPeer). is_open_there P m l p.peer ≡ true)
-        (λ (p : MetPeer). is_open_there (s ∷ P) m l p.peer ≡ true) (living (s ∷ P) n)
-        (λ p open_. there-stays p.peer ∙ open_) (after-all l P n m s.effects off (living P n) all)
-
-    abbrev IsAnswered : List Step → Inc → Type 0
-    IsAnswered Q i = list_any (is_for (Over l (name_of Q i))) (hunting Q n) ≡ false
-
-    answers-stay : HuntsAnswered P n m l → HuntsAnswered (s ∷ P) n m l
-    answers-stay all =
-        subst (λ (incs : List Inc). AllByRecursion (IsAnswered (s ∷ P)) incs)
-        (sym (open-stays m s P there))
-        (each-all (IsAnswered (s ∷ P)) (open_endpoints P m) (λ i is.
-        subst (λ (name : List ℕ). list_any (is_for (Over l name)) (hunting (s ∷ P) n) ≡ false)
-        (sym (name-stays m s P there i (open-on P m i is)))
-        (hunts-stay l s P n head (name_of P i) (among (IsAnswered P) i (open_endpoints P m) all is))))
-
-    pub half-stays : IsStillHalf P n m l x y → IsStillHalf (s ∷ P) n m l x y
-    half-stays half = record {
-      up = up-stays n ∙ half.up;
-      pair = off-paired l n x s.effects off (paired_session P n l.0 x) ∙ half.pair;
-      all_got = all-got-stays half.all_got;
-      peers_open = peers-stay half.peers_open;
-      hunts_answered = answers-stay half.hunts_answered;
-    }
+  pub half-after : IsHalfBut (s ∷ P) n m l x y all
+  half-after = record {
+    up = up-stays;
+    pair = pair-stays;
+    got = got-after;
+    peers = peers-after;
+    hunts = hunts-after;
+  }
 
 -- AND THE LINK
-module _ (shape : Shape) (l : LinkNo) (ends : LinkDecl) (linked : link_at shape l.0 ≡ Some ends) where
-  first-is : node_at shape l First ≡ ends.first.0
-  first-is = ap (λ (o : Option LinkDecl). end_or_0 o First) linked
+module _ (shape : Shape) (l : LinkNo) where
+  abbrev one : ℕ
+  one = node_at shape l First
 
-  second-is : node_at shape l Second ≡ ends.second.0
-  second-is = ap (λ (o : Option LinkDecl). end_or_0 o Second) linked
+  abbrev two : ℕ
+  two = node_at shape l Second
 
-  still-stays : (s : Step) (P : List Step) → stirs l.0 ends s ≡ false → IsStill shape P l
-      → IsStill shape (s ∷ P) l
-  still-stays s P calm still = by_state still
-    where
-      head : is_stirring l.0 s.head ≡ false
-      head = none-first (is_stirring l.0 s.head) (list_any (is_stir l.0 ends) s.effects) calm
+  pub data IsStillBut (P : List Step) (stirs : List Stir) : Type 0 where
+    cut_but : is_cut P l.0 ≡ true → up_session P one l.0 ≡ None → up_session P two l.0 ≡ None
+        → IsStillBut P stirs
+    whole_but : is_cut P l.0 ≡ false → (x y : Session) → IsHalfBut P one two l x y stirs
+        → IsHalfBut P two one l y x stirs → IsStillBut P stirs
 
-      none : list_any (is_stir l.0 ends) s.effects ≡ false
-      none = none-rest (is_stirring l.0 s.head) (list_any (is_stir l.0 ends) s.effects) calm
-
-      off : AreOff l.0 s.effects
-      off = off-of l.0 ends s.effects none
-
-      here : AreCalmAt (node_at shape l First) s.effects
-      here =
-          subst (λ (n : ℕ). AreCalmAt n s.effects) (sym first-is)
-          (calm-first l.0 ends s.effects none)
-
-      there : AreCalmAt (node_at shape l Second) s.effects
-      there =
-          subst (λ (n : ℕ). AreCalmAt n s.effects) (sym second-is)
-          (calm-second l.0 ends s.effects none)
-
-      by_state : IsStill shape P l → IsStill shape (s ∷ P) l
-      by_state (cut is down other_down) =
-          cut (no-cut l (is_cut P l.0) s.head head ∙ is)
-          (up-stays s P l head off (node_at shape l First) ∙ down)
-          (up-stays s P l head off (node_at shape l Second) ∙ other_down)
-      by_state (whole is x y all) =
-          whole (no-cut l (is_cut P l.0) s.head head ∙ is) x y (record {
-            there = half-stays s P l head off (node_at shape l First) (node_at shape l Second)
-                here there x y all.there;
-            back = half-stays s P l head off (node_at shape l Second) (node_at shape l First)
-                there here y x all.back;
-          })
+  still-but : (P : List Step) → IsStill shape P l → IsStillBut P []
+  still-but P (cut is down other_down) = cut_but is down other_down
+  still-but P (whole is x y all) =
+      whole_but is x y (half-but P one two l x y all.there) (half-but P two one l y x all.back)
 
   found-none : IsLinkOf shape l → (P : List Step) (head : Head) → finds_none head ≡ true
       → KeepsRest shape P head → IsStill shape P l
   found-none of_shape P (heads.TakeNone selected) is keeps = keeps l of_shape
   found-none of_shape P _ is keeps = absurd (true≢false (sym is))
 
-  -- a link that rests after a legal history is still
-  pub rests-still : IsLinkOf shape l → (P : List Step) → IsLegal shape P
-      → rests_left P l.0 ends ≡ true → IsStill shape P l
-  rests-still of_shape [] legal is = absurd (true≢false (sym is))
-  rests-still of_shape (s ∷ P) legal is =
-      let parts = and_parts (finds_none s.head || rests_left P l.0 ends) (not (stirs l.0 ends s))
-      is in
-      still-stays s P (not-true _ parts.1)
-      (elim (or_cases (finds_none s.head) (rests_left P l.0 ends) parts.0) [
-        | inl none ↦ found-none of_shape P s.head none legal.1.rest
-        | inr before ↦ rests-still of_shape P legal.0 before
-      ])
+  module _ (ends : LinkDecl) (linked : link_at shape l.0 ≡ Some ends) where
+    first-is : one ≡ ends.first.0
+    first-is = ap (λ (o : Option LinkDecl). end_or_0 o First) linked
+
+    second-is : two ≡ ends.second.0
+    second-is = ap (λ (o : Option LinkDecl). end_or_0 o Second) linked
+
+    at-first : (i : Inc) → is_on one i ≡ true → is_at_end ends i ≡ true
+    at-first i on =
+        or_left (is_on ends.first.0 i) (is_on ends.second.0 i)
+        (subst (λ (n : ℕ). is_on n i ≡ true) first-is on)
+
+    at-second : (i : Inc) → is_on two i ≡ true → is_at_end ends i ≡ true
+    at-second i on =
+        or_right (is_on ends.first.0 i) (is_on ends.second.0 i)
+        (subst (λ (n : ℕ). is_on n i ≡ true) second-is on)
+
+    but-after : (s : Step) (P : List Step) → IsLegal shape (s ∷ P)
+        → length (s ∷ P) < 4294967295 → is_rough l.0 s ≡ false → (stirs : List Stir)
+        → IsStillBut P stirs → IsStillBut (s ∷ P) (stirs ++ stirs_of l.0 ends (endpoint_by P s.by) s)
+    but-after s P legal short smooth stirs but = by_state but
+      where
+        stays : moves l.0 s.head ≡ false
+        stays = none-first (moves l.0 s.head) (list_any (changes l.0) s.effects) smooth
+
+        calm : list_any (changes l.0) s.effects ≡ false
+        calm = none-rest (moves l.0 s.head) (list_any (changes l.0) s.effects) smooth
+
+        down-stays : (n : ℕ) → up_session P n l.0 ≡ None → up_session (s ∷ P) n l.0 ≡ None
+        down-stays n down = same-session l ends n s.effects calm (up_session P n l.0) ∙ down
+
+        orderly : (n : ℕ) → IsOrderly (s ∷ P) n l
+        orderly n = legal-orderly shape (s ∷ P) legal short n l
+
+        fresh : (a b : Inc) (z : Session)
+            → (list_any (opens a) s.effects ≡ true) ⊎ (list_any (opens b) s.effects ≡ true)
+            → sent_to P a (There l z b) ≡ []
+        fresh a b z new = unsent shape s P legal (omega (arith, short)) l a b z new
+
+        by_state : IsStillBut P stirs
+            → IsStillBut (s ∷ P) (stirs ++ stirs_of l.0 ends (endpoint_by P s.by) s)
+        by_state (cut_but is down other_down) =
+            cut_but (same-cut l ends (is_cut P l.0) s.head stays ∙ is) (down-stays one down)
+            (down-stays two other_down)
+        by_state (whole_but is x y there back) =
+            whole_but (same-cut l ends (is_cut P l.0) s.head stays ∙ is) x y
+            (half-after s P l ends calm one two at-first at-second (orderly one) fresh x y stirs there)
+            (half-after s P l ends calm two one at-second at-first (orderly two) fresh y x stirs back)
+
+    abbrev stirs_by : List Step → Step → List Stir
+    stirs_by P s = stirs_of l.0 ends (endpoint_by P s.by) s
+
+    -- after a legal history a link is still but for what was stirred, where that is known
+    pub stirred-but : IsLinkOf shape l → (P : List Step) → IsLegal shape P
+        → length P < 4294967295 → (stirs : List Stir) → stirred_left P l.0 ends ≡ Some stirs
+        → IsStillBut P stirs
+    stirred-but of_shape [] legal short stirs is = cc is
+    stirred-but of_shape (s ∷ P) legal short stirs is =
+        by_rough (λ before known. stirred-but of_shape P legal.0 (omega (arith, short)) before known)
+        (is_rough l.0 s) refl is
+      where
+        from : is_rough l.0 s ≡ false → (before : List Stir) → IsStillBut P before
+            → (let o : Option (List Stir) = Some (before ++ stirs_by P s) in o) ≡ Some stirs
+            → IsStillBut (s ∷ P) stirs
+        from smooth before but same =
+            let all : before ++ stirs_by P s ≡ stirs = cc in
+            subst (λ (vs : List Stir). IsStillBut (s ∷ P) vs) all
+            (but-after s P legal short smooth before but)
+
+        by_before : ((before : List Stir) → stirred_left P l.0 ends ≡ Some before
+            → IsStillBut P before) → is_rough l.0 s ≡ false → (o : Option (List Stir))
+            → stirred_left P l.0 ends ≡ o → with_more o (stirs_by P s) ≡ Some stirs
+            → IsStillBut (s ∷ P) stirs
+        by_before earlier smooth None known same = cc same
+        by_before earlier smooth (Some before) known same =
+            from smooth before (earlier before known) same
+
+        by_none : ((before : List Stir) → stirred_left P l.0 ends ≡ Some before
+            → IsStillBut P before) → is_rough l.0 s ≡ false → (b : Bool)
+            → finds_none s.head ≡ b
+            → with_more (if b then Some [] else stirred_left P l.0 ends) (stirs_by P s) ≡ Some stirs
+            → IsStillBut (s ∷ P) stirs
+        by_none earlier smooth true none same =
+            from smooth [] (still-but P (found-none of_shape P s.head none legal.1.rest)) same
+        by_none earlier smooth false none same =
+            by_before earlier smooth (stirred_left P l.0 ends) refl same
+
+        by_rough : ((before : List Stir) → stirred_left P l.0 ends ≡ Some before
+            → IsStillBut P before) → (b : Bool) → is_rough l.0 s ≡ b
+            → (if b then None else with_more (if finds_none s.head then Some []
+            else stirred_left P l.0 ends) (stirs_by P s)) ≡ Some stirs → IsStillBut (s ∷ P) stirs
+        by_rough earlier true rough same = cc same
+        by_rough earlier false smooth same = by_none earlier smooth (finds_none s.head) refl same

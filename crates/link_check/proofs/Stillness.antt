@@ -46,9 +46,14 @@ use Rattle.link_check.specs.Deliveries.{Known, flow_of, is_session, is_to_come, 
 use Rattle.link_check.specs.Deliveries.{next_sent}
 use Rattle.link_check.specs.Orderly.{IsOrderly, TellsAlive, TellsNames}
 use Rattle.link_check.specs.Stillness.{any_findable, any_left_over, any_under_way, is_findable}
-use Rattle.link_check.specs.Stillness.{is_left_over, is_open_name, is_still_half, is_under_way}
+use Rattle.link_check.specs.Rest.{IsSettledHalf}
+use Rattle.link_check.specs.Stillness.{is_left_over, is_open_name, is_still_half, is_stirred}
+use Rattle.link_check.specs.Stillness.{is_under_way}
+use Rattle.link_check.specs.declared.rest.Stir.{Stir}
+use Rattle.link_check.specs.declared.rest.Stir.TheVariants.{Sent, Doubted, Hunted, Offered}
 use Rattle.link_check.proofs.Deliveries.{next-same, pair-is}
 use Rattle.link_check.proofs.Fronts.{all-behind, front-all}
+use Rattle.link_check.proofs.Off.{and-false}
 use Rattle.link_check.proofs.Ones.{One, any-both, any-kept, any-one, none-filtered}
 use Rattle.link_check.proofs.Sendings.{among, each-all, noted-flow}
 use Rattle.link_check.proofs.Tests.{both, bytes-is, inc-is, inc-same, is-bytes, link-is, session-is}
@@ -96,7 +101,7 @@ module _ (node : ℕ) (q : Peer) where
       go false same = inl same
   met-after _ before is = inl is
 
-  met-past : (es : List Effect) (before : List MetPeer)
+  pub met-past : (es : List Effect) (before : List MetPeer)
       → is_met (fold (living_after node) before es) q ≡ true
       → (is_met before q ≡ true) ⊎ (list_any (meets_peer node q) es ≡ true)
   met-past [] before is = inl is
@@ -127,7 +132,7 @@ same-peer (There l x i) =
     (both (l.0 == l.0) (x.0 == x.0) (eq-eqb l.0 l.0 refl) (eq-eqb x.0 x.0 refl)) (inc-same i)
 
 -- what holds of each that is among met peers holds of all
-each-met : (Q : Peer → Type 0) (met : List MetPeer) → ((q : Peer) → is_met met q ≡ true → Q q)
+pub each-met : (Q : Peer → Type 0) (met : List MetPeer) → ((q : Peer) → is_met met q ≡ true → Q q)
     → AllByRecursion (λ (p : MetPeer). Q p.peer) met
 each-met Q [] each = tt
 each-met Q (p ∷ met) each = (
@@ -135,9 +140,37 @@ each-met Q (p ∷ met) each = (
   each-met Q met (λ q is. each q (or_right (same_peer q p.peer) (is_met met q) is)),
 )
 
+and-rest : (a b : Bool) → a ≡ true → (a && b) ≡ false → b ≡ false
+and-rest true b is none = none
+and-rest false b is none = absurd (true≢false (sym is))
+
 no-test : (b : Bool) → not b ≡ true → b ≡ true → ⊥
 no-test true is on = true≢false (sym is)
 no-test false is on = true≢false (sym on)
+
+-- one who lives is open where all are
+module _ (P : List Step) (m : ℕ) (l : LinkNo) (x : Session) where
+  pub open-among : (i : Inc) (met : List MetPeer)
+      → AllByRecursion (λ (p : MetPeer). is_open_there P m l p.peer ≡ true) met
+      → is_met met (There l x i) ≡ true → is_alive P m (Here i) ≡ true
+  open-among i [] all is = absurd (true≢false (sym is))
+  open-among i (p ∷ met) all is =
+      elim (or_cases (same_peer (There l x i) p.peer) (is_met met (There l x i)) is) [
+        | inl same ↦ this p.peer same all.0
+        | inr rest ↦ open-among i met all.1 rest
+      ]
+    where
+      this : (q : Peer) → same_peer (There l x i) q ≡ true → is_open_there P m l q ≡ true → is_alive P m (Here i) ≡ true
+      this (Here j) same open_ = absurd (true≢false (sym same))
+      this (There k z j) same open_ =
+          let parts = and_parts (l.0 == k.0 && x.0 == z.0) (same_inc i j) same in
+          let others = and_parts (l.0 == k.0) (x.0 == z.0) parts.0 in
+          let flip : (k.0 == l.0) ≡ true = eq-eqb k.0 l.0 (sym (eqb-true l.0 k.0 others.0)) in
+          subst (λ (v : Inc). is_alive P m (Here v) ≡ true) (sym (inc-is i j parts.1))
+          (elim (or_cases (not (k.0 == l.0)) (is_alive P m (Here j)) open_) [
+            | inl off ↦ absurd (no-test (k.0 == l.0) off flip)
+            | inr on ↦ on
+          ])
 
 module _ (P : List Step) (near far : NodeState) (at other : NodeNo) (l : LinkNo) (side : Side)
     (arrived : List (Flow × ℕ)) (counted : (f : Flow) → count_in arrived f ≡ counts_left P f)
@@ -285,27 +318,6 @@ module _ (P : List Step) (near far : NodeState) (at other : NodeNo) (l : LinkNo)
   peers-open none = each-met IsOpen (living P n) (open-of none)
 
   -- and where they are open, none is left over
-  open-among : (i : Inc) (met : List MetPeer) → AllByRecursion (λ (p : MetPeer). IsOpen p.peer) met
-      → is_met met (There l x i) ≡ true → is_alive P m (Here i) ≡ true
-  open-among i [] all is = absurd (true≢false (sym is))
-  open-among i (p ∷ met) all is =
-      elim (or_cases (same_peer (There l x i) p.peer) (is_met met (There l x i)) is) [
-        | inl same ↦ this p.peer same all.0
-        | inr rest ↦ open-among i met all.1 rest
-      ]
-    where
-      this : (q : Peer) → same_peer (There l x i) q ≡ true → IsOpen q → is_alive P m (Here i) ≡ true
-      this (Here j) same open_ = absurd (true≢false (sym same))
-      this (There k z j) same open_ =
-          let parts = and_parts (l.0 == k.0 && x.0 == z.0) (same_inc i j) same in
-          let others = and_parts (l.0 == k.0) (x.0 == z.0) parts.0 in
-          let flip : (k.0 == l.0) ≡ true = eq-eqb k.0 l.0 (sym (eqb-true l.0 k.0 others.0)) in
-          subst (λ (v : Inc). is_alive P m (Here v) ≡ true) (sym (inc-is i j parts.1))
-          (elim (or_cases (not (k.0 == l.0)) (is_alive P m (Here j)) open_) [
-            | inl off ↦ absurd (no-test (k.0 == l.0) off flip)
-            | inr on ↦ on
-          ])
-
   not-left : PeersOpen P n m l → (mark : Mark) → is_meeting_in at l x mark ≡ true
       → is_left_over d e mark ≡ true → ⊥
   not-left all (Opened j name) is over = true≢false (sym is)
@@ -320,7 +332,7 @@ module _ (P : List Step) (near far : NodeState) (at other : NodeNo) (l : LinkNo)
       (subst (λ (z : Session). is_living near (There link z i) ≡ true)
       (sym (session-is x session two.1)) halves.0) in
       let open_ : is_alive P m (Here i) ≡ true =
-      open-among i (living P n) all (sym (tells.there x i) ∙ lives) in
+      open-among P m l x i (living P n) all (sym (tells.there x i) ∙ lives) in
       no-test (is_open far.endpoints i) halves.1 (across.here i ∙ open_)
 
   none-left : PeersOpen P n m l → any_left_over d e x ≡ false
@@ -425,3 +437,74 @@ module _ (P : List Step) (near far : NodeState) (at other : NodeNo) (l : LinkNo)
       (ap not (got-all half.all_got))
       (both (not (any_left_over d e x)) (not (any_findable d e)) (ap not (none-left half.peers_open))
       (ap not (none-findable half.hunts_answered))))
+
+  -- WHAT WAS STIRRED. It is told whether a flow is settled
+  sent-told : (a b : Inc) → is_under_way d e x (flow_of a l y b) ≡ false
+      → paired_session P n l.0 x ≡ Some y → IsSettledHalf P n m l x y (Sent a b)
+  sent-told a b none paired sender receiver = go (next_sent d x y a b) refl
+    where
+      go : (o : Option SigNote) → next_sent d x y a b ≡ o → HasGot a b
+      go None is =
+          front-all (arrived_from P b (There l x a)) (sent_to P a (There l y b))
+          (orderly.fronts x y up paired a b receiver) (sym (next-is a b) ∙ is)
+      go (Some note) is =
+          absurd (true≢false (sym (and_parts (is_in l y (flow_of a l y b))
+          (is_under_way d e x (flow_of a l y b)) (looked-at a b sender receiver note is)).1 ∙ none))
+
+  -- a peer
+  doubted-told : (i : Inc)
+      → (is_living near (There l x i) && not (is_open far.endpoints i)) ≡ false
+      → IsSettledHalf P n m l x y (Doubted i)
+  doubted-told i none z met =
+      let is_x : (let o : Option Session = Some x in o) ≡ Some z =
+      sym up ∙ orderly.living z i met in
+      let one : z ≡ x = cc in
+      let alive : is_met (living P n) (There l x i) ≡ true =
+      subst (λ (v : Session). is_met (living P n) (There l v i) ≡ true) one met in
+      by_test (is_open far.endpoints i) refl alive
+    where
+      by_test : (b : Bool) → is_open far.endpoints i ≡ b
+          → is_met (living P n) (There l x i) ≡ true → is_alive P m (Here i) ≡ true
+      by_test true open_ alive = sym (across.here i) ∙ open_
+      by_test false closed alive =
+          absurd (true≢false (sym (both (is_living near (There l x i)) (not (is_open far.endpoints i))
+          (tells.there x i ∙ alive) (ap not closed)) ∙ none))
+
+  -- and a name
+  hunted-told : (name : List ℕ)
+      → (is_open_name far.endpoints (Some name) && any_findable d e) ≡ false
+      → IsSettledHalf P n m l x y (Hunted name)
+  hunted-told name none i open_ named =
+      let one = any-one (same_inc i) (open_endpoints P m) open_ in
+      let found : is_some (first_named far.endpoints name) ≡ true =
+      names name ∙ one.among (λ (j : Inc). bytes_eq name (name_of P j))
+      (is-bytes name (name_of P one.it)
+      (sym named ∙ ap (name_of P) (inc-is i one.it one.passes))) in
+      answered-of (and-rest (is_some (first_named far.endpoints name)) (any_findable d e) found none)
+      i open_
+
+  pub settled-told : paired_session P n l.0 x ≡ Some y → (stir : Stir)
+      → is_stirred d e x y stir ≡ false → IsSettledHalf P n m l x y stir
+  settled-told paired (Sent a b) none = sent-told a b none paired
+  settled-told paired (Doubted i) none = doubted-told i none
+  settled-told paired (Hunted name) none = hunted-told name none
+  settled-told paired (Offered i) none = λ open_. answered-of
+      (and-rest (is_open far.endpoints i) (any_findable d e) (across.here i ∙ open_) none) i open_
+
+  -- and all are where the direction is still
+  pub told-settled : IsStillHalf P n m l x y → (stir : Stir) → is_stirred d e x y stir ≡ false
+  told-settled half (Sent a b) =
+      false_from_ne_true (is_under_way d e x (flow_of a l y b)) (λ due.
+      under-way half.all_got (flow_of a l y b)
+      (both (l.0 == l.0) (y.0 == y.0) (eq-eqb l.0 l.0 refl) (eq-eqb y.0 y.0 refl)) due)
+  told-settled half (Doubted i) =
+      false_from_ne_true (is_living near (There l x i) && not (is_open far.endpoints i)) (λ over.
+      let halves = and_parts (is_living near (There l x i)) (not (is_open far.endpoints i)) over in
+      no-test (is_open far.endpoints i) halves.1
+      (across.here i ∙ open-among P m l x i (living P n) half.peers_open
+      (sym (tells.there x i) ∙ halves.0)))
+  told-settled half (Hunted name) =
+      and-false 0 (is_some (first_named far.endpoints name)) (any_findable d e)
+      (none-findable half.hunts_answered)
+  told-settled half (Offered i) =
+      and-false 0 (is_open far.endpoints i) (any_findable d e) (none-findable half.hunts_answered)

@@ -1,10 +1,9 @@
 -- WHAT A BOOK AND THE KERNELS TELL of a link is what the laws say of it.
 use Rattle.std.proofs.Common.{◌≡◌, ℕ, suc, ◌-◌, ◌<◌, ◌≤◌, Bool, true, false, List, [], ◌∷◌, length}
 use Rattle.std.proofs.Common.{Option, Some, None, slice_get, nat_le, refl, sym, ◌∙◌, ap, subst}
-use Rattle.std.proofs.Common.{arith, le-leb, leb-true, true≢false, if◌then◌else◌, inl, inr}
+use Rattle.std.proofs.Common.{arith, le-leb, leb-true, true≢false, if◌then◌else◌}
 use Rattle.std.specs.Prelude.{IsSomeAnd}
 use Rattle.std.specs.Option.{unwrap_or}
-use Rattle.std.proofs.lemmas.Bool.{or_cases, or_right}
 use Rattle.linx_base.specs.Sides.{other_of}
 use Rattle.linx_base.specs.declared.frame.LinkDecl.{LinkDecl}
 use Rattle.linx_base.specs.declared.identity.LinkNo.{LinkNo}
@@ -31,16 +30,17 @@ use Rattle.link_check.specs.Deliveries.{Known, is_session, known_left, may_bring
 use Rattle.link_check.specs.Lines.{LineSoFar, fresh_line, line_left, side_in}
 use Rattle.link_check.specs.Orderly.{IsNodeTold}
 use Rattle.link_check.specs.Reading.{brought_by}
-use Rattle.link_check.specs.Rest.{rests_left}
-use Rattle.link_check.specs.Stillness.{Ends, is_still}
+use Rattle.link_check.specs.Rest.{stirred_left}
+use Rattle.link_check.specs.Stillness.{Ends}
+use Rattle.link_check.specs.declared.rest.Stir.{Stir}
 use Rattle.link_check.specs.Told.{AreLeft, IsBetween, IsReady, IsThere, are_none, ends_in, ends_of}
-use Rattle.link_check.specs.Told.{is_still_at, kernel_in, known_at, line_in, may_lose, may_pass_if, nowhere}
+use Rattle.link_check.specs.Told.{is_still_at, is_still_by, kernel_in, known_at, line_in, may_lose, may_pass_if, nowhere}
 use Rattle.link_check.proofs.Deliveries.{may-told, told-may}
 use Rattle.link_check.proofs.Legal.{legal-orderly}
-use Rattle.link_check.proofs.Lines.{TellsEnd, still-told, told-still}
+use Rattle.link_check.proofs.Lines.{TellsEnd, settled-still, still-settled, still-told, told-still}
 use Rattle.link_check.proofs.Nodes.{tells-alive, tells-names}
 use Rattle.link_check.proofs.AtLinks.{all-at, at-place}
-use Rattle.link_check.proofs.Rests.{rests-still}
+use Rattle.link_check.proofs.Rests.{stirred-but}
 use Rattle.link_check.proofs.Tests.{session-up, up-session}
 
 none-is : (es : List Effect) → are_none es ≡ true → es ≡ []
@@ -240,8 +240,8 @@ module _ (shape : Shape) (P : List Step) (book : BookSoFar) (kernels : List Node
   ends-are : ends_of book kernels l ≡ left_ends
   ends-are = λ i. record { first = known-is First i; second = known-is Second i; cut = cut-is i }
 
-  rests-is : (line_in book l).rests ≡ rests_left P l.0 ends
-  rests-is = ap (λ (line : LineSoFar). line.rests) line-is
+  stirred-is : (line_in book l).stirred ≡ stirred_left P l.0 ends
+  stirred-is = ap (λ (line : LineSoFar). line.stirred) line-is
 
   of-shape : IsLinkOf shape l
   of-shape = (
@@ -250,18 +250,29 @@ module _ (shape : Shape) (P : List Step) (book : BookSoFar) (kernels : List Node
         there.within,
   )
 
+  by-is : is_still_at book kernels l ≡ is_still_by left_ends (stirred_left P l.0 ends)
+  by-is = λ i. is_still_by (ends-are i) (stirred-is i)
+
+  by-told : (o : Option (List Stir)) → stirred_left P l.0 ends ≡ o
+      → is_still_by left_ends o ≡ true → IsStill shape P l
+  by-told None known is =
+      still-told shape P l (node First) (node Second) (home First) (home Second) book.arrived counted
+      left.short (node-is First) (node-is Second) (tells First) (tells Second) is
+  by-told (Some stirs) known is =
+      settled-still shape P l (node First) (node Second) (home First) (home Second) book.arrived
+      counted left.short (node-is First) (node-is Second) (tells First) (tells Second) stirs
+      (stirred-but shape l ends linked of-shape P left.legal short stirs known) is
+
+  told-by : (o : Option (List Stir)) → IsStill shape P l → is_still_by left_ends o ≡ true
+  told-by None still =
+      told-still shape P l (node First) (node Second) (home First) (home Second) book.arrived
+      counted left.short (node-is First) (node-is Second) (tells First) (tells Second) still
+  told-by (Some stirs) still =
+      still-settled shape P l (node First) (node Second) (home First) (home Second) book.arrived
+      counted left.short (node-is First) (node-is Second) (tells First) (tells Second) stirs still
+
   pub rest-told : is_still_at book kernels l ≡ true → IsStill shape P l
-  rest-told is =
-      elim (or_cases (line_in book l).rests (is_still (ends_of book kernels l)) is) [
-        | inl rests ↦ rests-still shape l ends linked of-shape P left.legal (sym rests-is ∙ rests)
-        | inr told ↦ still-told shape P l (node First) (node Second) (home First) (home Second)
-            book.arrived counted left.short (node-is First) (node-is Second) (tells First)
-            (tells Second) (sym (ap is_still ends-are) ∙ told)
-      ]
+  rest-told is = by-told (stirred_left P l.0 ends) refl (sym by-is ∙ is)
 
   pub told-rest : IsStill shape P l → is_still_at book kernels l ≡ true
-  told-rest still =
-      or_right (line_in book l).rests (is_still (ends_of book kernels l))
-      (ap is_still ends-are
-      ∙ told-still shape P l (node First) (node Second) (home First) (home Second) book.arrived
-      counted left.short (node-is First) (node-is Second) (tells First) (tells Second) still)
+  told-rest still = by-is ∙ told-by (stirred_left P l.0 ends) still

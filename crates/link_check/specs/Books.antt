@@ -49,17 +49,18 @@ pub record TakesStep (book : BookSoFar) : Type 0 where
   pub few : length book.lines < 4294967295
   pub room : HaveRoom book.lines
 
--- each link is past a step
-pub record ArePast (links : List LinkDecl) (s : Step) (old new : List LineSoFar) : Type 0 where
+-- each link is past a step, whose maker has this endpoint
+pub record ArePast (links : List LinkDecl) (me : Option Inc) (s : Step) (old new : List LineSoFar)
+    : Type 0 where
   pub counted : length new ≡ length old
   pub each : (k : ℕ) (line : LineSoFar) (ends : LinkDecl) → slice_get old k ≡ Some line
       → slice_get links k ≡ Some ends
-      → slice_get new k ≡ Some (line_after (suc k) ends s line)
+      → slice_get new k ≡ Some (line_after (suc k) ends me s line)
 
 -- THE BOOK after a step whose maker has this endpoint
 pub record IsPast (me : Option Inc) (s : Step) (old new : BookSoFar) : Type 0 where
   pub links : new.links ≡ old.links
-  pub lines : ArePast old.links s old.lines new.lines
+  pub lines : ArePast old.links me s old.lines new.lines
   pub marks : new.marks ≡ old.marks ++ marks_in s.head s.effects
   pub sent : new.sent ≡ sent_past me s.head old.sent
   pub arrived : count_in new.arrived ≡ counts_past s.effects (count_in old.arrived)

@@ -1,10 +1,11 @@
 -- Whether a link is still, by what is known at its two ends.
-use Rattle.std.specs.Prelude.{ℕ, ◌==◌, Bool, false, not, ◌&&◌, List, filter, is_none, is_some}
+use Rattle.std.specs.Prelude.{ℕ, Bool, false, not, ◌&&◌, ◌||◌, List, filter, is_none, is_some}
 use Rattle.std.specs.Prelude.{Option, Some, None, if◌then◌else◌}
 use Rattle.std.specs.List.{list_any}
 use Rattle.linx_base.specs.Pending.{name_over}
 use Rattle.linx_base.specs.declared.identity.Inc.{Inc}
 use Rattle.linx_base.specs.declared.identity.Peer.{Peer}
+use Rattle.linx_base.specs.declared.identity.Peer.TheVariants.{There}
 use Rattle.linx_base.specs.declared.identity.Session.{Session}
 use Rattle.linx_base.specs.declared.pending.PendingHunt.{PendingHunt}
 use Rattle.node_kernel.specs.Nodes.{OpenEndpoint, first_named, is_living, is_open}
@@ -12,7 +13,9 @@ use Rattle.link_tables.specs.Marks.{is_meeting_in, met_by}
 use Rattle.link_tables.specs.Sent.{flows_of, is_in}
 use Rattle.link_tables.specs.declared.marks.Mark.{Mark}
 use Rattle.link_tables.specs.declared.sent.Flow.{Flow}
-use Rattle.link_check.specs.Deliveries.{Known, is_session, is_to_come}
+use Rattle.link_check.specs.Deliveries.{Known, flow_of, is_session, is_to_come}
+use Rattle.link_check.specs.declared.rest.Stir.{Stir}
+use Rattle.link_check.specs.declared.rest.Stir.TheVariants.{Sent, Doubted, Hunted, Offered}
 
 -- THE TWO ENDS of a link, and whether it is cut
 pub record Ends : Type 0 where
@@ -53,6 +56,20 @@ abbrev pub any_findable : (d e : Known) → Bool
 any_findable d e =
     list_any (is_findable d e) (filter (λ h. is_some (name_over d.link h.path)) d.node.hunts)
 
+-- WHAT WAS STIRRED isn't settled in one direction, where session x is up here and session y across: a
+-- signal is under way, a peer is left over, or a hunt is findable where the name, or who was opened, is open
+abbrev pub is_stirred : (d e : Known) → (x y : Session) → Stir → Bool
+is_stirred d e x y (Sent a b) = is_under_way d e x (flow_of a d.link y b)
+is_stirred d e x y (Doubted i) =
+    is_living d.node (There d.link x i) && not (is_open e.node.endpoints i)
+is_stirred d e x y (Hunted name) = is_open_name e.node.endpoints (Some name) && any_findable d e
+is_stirred d e x y (Offered i) = is_open e.node.endpoints i && any_findable d e
+
+-- in either
+abbrev pub is_unsettled_by : (d e : Known) → (x y : Option Session) → Stir → Bool
+is_unsettled_by d e (Some x) (Some y) stir = is_stirred d e x y stir || is_stirred e d y x stir
+is_unsettled_by d e _ _ stir = false
+
 -- ONE DIRECTION is still, where session x is up here and session y across
 abbrev pub is_still_half : (d e : Known) → (x y : Session) → Bool
 is_still_half d e x y =
@@ -70,3 +87,12 @@ abbrev pub is_still : Ends → Bool
 is_still ends =
     if ends.cut then is_none ends.first.here.up && is_none ends.second.here.up
     else is_still_whole ends.first ends.second ends.first.here.up ends.second.here.up
+
+-- what was stirred isn't settled
+abbrev pub is_unsettled : Ends → Stir → Bool
+is_unsettled ends stir =
+    is_unsettled_by ends.first ends.second ends.first.here.up ends.second.here.up stir
+
+-- all of it is
+abbrev pub is_settled : Ends → List Stir → Bool
+is_settled ends stirs = not (list_any (is_unsettled ends) stirs)

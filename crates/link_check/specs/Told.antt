@@ -1,5 +1,5 @@
 -- The laws of links, as a book and the kernels of the nodes tell them.
-use Rattle.std.specs.Prelude.{ℕ, zero, suc, ◌-◌, ◌<◌, ◌≤◌, ◌≡◌, Bool, true, false, ◌&&◌, ◌||◌}
+use Rattle.std.specs.Prelude.{ℕ, zero, suc, ◌-◌, ◌<◌, ◌≤◌, ◌≡◌, Bool, true, false, ◌&&◌}
 use Rattle.std.specs.Prelude.{List}
 use Rattle.std.specs.Prelude.{is_none, length, Option, Some, None, slice_get}
 use Rattle.std.specs.List.{AllByRecursion}
@@ -24,8 +24,9 @@ use Rattle.link_check.specs.Cuts.{loses_if_cut}
 use Rattle.link_check.specs.Deliveries.{Known, is_session, may_bring}
 use Rattle.link_check.specs.Lines.{LineSoFar, fresh_line, side_in}
 use Rattle.link_check.specs.Orderly.{IsNodeTold}
-use Rattle.link_check.specs.Stillness.{Ends, is_still}
+use Rattle.link_check.specs.Stillness.{Ends, is_settled, is_still}
 use Rattle.link_check.specs.Ticks.{session_to_lose}
+use Rattle.link_check.specs.declared.rest.Stir.{Stir}
 
 -- the nodes of a link that there isn't
 abbrev pub nowhere : LinkDecl
@@ -57,9 +58,14 @@ ends_of book kernels l = record {
   cut = (line_in book l).cut;
 }
 
--- REST. A link rests, or is still by what is known at its ends
+-- REST. A link is still where all that was stirred on it since it was last seen still is settled, or
+-- by all that is known at its ends
+abbrev pub is_still_by : Ends → Option (List Stir) → Bool
+is_still_by ends None = is_still ends
+is_still_by ends (Some stirs) = is_settled ends stirs
+
 abbrev pub is_still_at : BookSoFar → List NodeState → LinkNo → Bool
-is_still_at book kernels l = (line_in book l).rests || is_still (ends_of book kernels l)
+is_still_at book kernels l = is_still_by (ends_of book kernels l) (line_in book l).stirred
 
 -- the first links, so many, are still
 abbrev pub all_still : BookSoFar → List NodeState → ℕ → Bool

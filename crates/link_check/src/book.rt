@@ -1,6 +1,6 @@
 //! What is kept of all links, step by step.
 ghost use Rattle.std.specs.Prelude.{◌≡◌, ◌<◌, ◌≤◌, [], length, replicate, slice_get};
-ghost use Rattle.std.specs.Prelude.{IfOk, OnOk, Some, option_to_list};
+ghost use Rattle.std.specs.Prelude.{IfOk, OnOk, Some, option_map, option_to_list};
 ghost use Rattle.link_laws.specs.Laws.{down_if};
 ghost use Rattle.link_check.specs.Books.{ArePast, HaveRoom, IsBookLeft, IsFresh, IsPast, TakesStep};
 ghost use Rattle.link_check.specs.Books.{end_no};
@@ -10,6 +10,7 @@ ghost use Rattle.link_check.specs.Told.{IsReady, IsThere, ends_in, ends_of, kern
 
 use crate::delivery::Delivery;
 use crate::line_table::LineTable;
+use crate::rest::Stir;
 use crate::still::Line;
 use journal::{Effect, Step};
 use link_tables::{Arrivals, Marks, Sent, SideTable};
@@ -82,17 +83,22 @@ fn kernel_of(kernels: &[Kernel], node: NodeNo) -> &Kernel
     &kernels[place]
 }
 
-/// Each of these passes a step.
-fn pass_all(lines: &mut [LineTable], links: &[LinkDecl], step: &Step) -> Result<(), NoMemory>
+/// Each of these passes a step, whose maker has this endpoint.
+fn pass_all(
+    lines: &mut [LineTable],
+    links: &[LinkDecl],
+    me: Option<Inc>,
+    step: &Step,
+) -> Result<(), NoMemory>
     requires counted { length lines.old ≡ length links.now }
     requires few { length lines.old < 4294967295 }
     requires room { HaveRoom lines.old }
-    ensures { OnOk result (ArePast links.now step.now lines.old lines.new) }
+    ensures { OnOk result (ArePast links.now me step.now lines.old lines.new) }
 {
     for place in 0..lines.len() {
         let link = LinkNo(place as u32 + 1);
         let ends = ends_at(links, place);
-        lines[place].pass(link, ends, step)?;
+        lines[place].pass(link, ends, me, step)?;
     }
     Ok(())
 }
@@ -123,7 +129,7 @@ impl Book {
         requires takes { TakesStep self.old }
         ensures { OnOk result (IsPast me step.now self.old self.new) }
     {
-        pass_all(&mut self.lines, &self.links, step)?;
+        pass_all(&mut self.lines, &self.links, me, step)?;
         self.marks.pass(step)?;
         self.sent.pass(me, &step.head)?;
         self.arrivals.pass(step)?;
@@ -173,13 +179,13 @@ impl Book {
         self.line_of(link).is_cut()
     }
 
-    /// Whether a link rests.
-    pub(crate) fn rests(&self, link: LinkNo) -> bool
+    /// What was stirred on a link since it was last seen still, where it is known.
+    pub(crate) fn stirred(&self, link: LinkNo) -> Option<&[Stir]>
         requires takes { TakesStep self.now }
         requires there { IsThere self.now link }
-        ensures { result ≡ (line_in self.now link).rests }
+        ensures { option_map (λ stirs. stirs.now) result ≡ (line_in self.now link).stirred }
     {
-        self.line_of(link).rests()
+        self.line_of(link).stirred()
     }
 
     /// A side of a link.

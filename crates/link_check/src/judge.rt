@@ -71,13 +71,17 @@ fn may_lose(side: &SideTable, effects: &[Effect]) -> bool
 }
 
 impl Book {
-    /// Whether a link is still: it rests, or what is known at its ends tells it.
+    /// Whether a link is still, by what was stirred since it was last seen so, or else by all that is
+    /// known at its ends.
     fn is_still_at(&self, kernels: &[Kernel], link: LinkNo) -> bool
         requires ready { IsReady self.now kernels.now }
         requires there { IsThere self.now link }
         ensures { result ≡ is_still_at self.now kernels.now link }
     {
-        self.rests(link) || self.ends(kernels, link).is_still()
+        match self.stirred(link) {
+            Some(stirs) => stirs.is_empty() || self.ends(kernels, link).is_settled(stirs),
+            None => self.ends(kernels, link).is_still(),
+        }
     }
 
     /// Whether every link is still.

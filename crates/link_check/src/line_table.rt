@@ -1,24 +1,24 @@
 //! What is kept of a link.
-ghost use Rattle.std.specs.Prelude.{◌≡◌, false, OnOk};
+ghost use Rattle.std.specs.Prelude.{◌≡◌, OnOk, option_map};
 ghost use Rattle.link_tables.specs.Sides.{HasRoom};
 ghost use Rattle.link_check.specs.Lines.{fresh_line, line_after, line_past, line_past_if, side_in};
 ghost use Rattle.link_check.specs.Lines.{touches};
 
-use crate::rest::rests_past;
+use crate::rest::{Rest, Stir};
 use journal::{Head, Step};
 use link_tables::{SideTable, cut_after};
-use linx_base::{LinkDecl, LinkNo, NoMemory, Side};
+use linx_base::{Inc, LinkDecl, LinkNo, NoMemory, Side};
 use std::alloc::Global;
 use std::marker::Model;
 
-/// The two sides of a link, whether it is cut, and whether it rests: it was still at a receive that
-/// found none, and no step has stirred it since.
+/// The two sides of a link, whether it is cut, and what was stirred on it since it was last seen
+/// still.
 #[derive(Drop)]
 pub(crate) struct LineTable {
     first: SideTable,
     second: SideTable,
     cut: bool,
-    rests: bool,
+    rest: Rest,
 }
 
 impl Model for LineTable {
@@ -30,7 +30,7 @@ impl Model for LineTable {
       first = t.first;
       second = t.second;
       cut = t.cut;
-      rests = t.rests;
+      stirred = t.rest;
     } };
 }
 
@@ -57,7 +57,7 @@ impl LineTable {
             first: SideTable::new(alloc),
             second: SideTable::new(alloc),
             cut: false,
-            rests: false,
+            rest: Rest::new(alloc),
         }
     }
 
@@ -78,11 +78,11 @@ impl LineTable {
         self.cut
     }
 
-    /// Whether the link rests.
-    pub(crate) fn rests(&self) -> bool
-        ensures { result ≡ self.now.rests }
+    /// What was stirred on the link since it was last seen still, where it is known.
+    pub(crate) fn stirred(&self) -> Option<&[Stir]>
+        ensures { option_map (λ stirs. stirs.now) result ≡ self.now.stirred }
     {
-        self.rests
+        self.rest.stirred()
     }
 
     /// Both sides pass a step.
@@ -110,20 +110,19 @@ impl LineTable {
         }
     }
 
-    /// Passes a step.
+    /// Passes a step, whose maker has this endpoint.
     pub(crate) fn pass(
         &mut self,
         link: LinkNo,
         ends: &LinkDecl,
+        me: Option<Inc>,
         step: &Step,
     ) -> Result<(), NoMemory>
         requires first { HasRoom self.old.first }
         requires second { HasRoom self.old.second }
-        ensures { OnOk result (self.new ≡ line_after link.0 ends.now step.now self.old) }
+        ensures { OnOk result (self.new ≡ line_after link.0 ends.now me step.now self.old) }
     {
-        let rests = rests_past(link, ends, step, self.rests);
-        self.pass_if(link, ends, step)?;
-        self.rests = rests;
-        Ok(())
+        self.rest.pass(link, ends, me, step)?;
+        self.pass_if(link, ends, step)
     }
 }

@@ -6,11 +6,13 @@ ghost use Rattle.linx_base.specs.Pending.{name_over};
 ghost use Rattle.link_check.specs.Deliveries.{is_session};
 ghost use Rattle.link_check.specs.Stillness.{any_findable, any_left_over, any_under_way};
 ghost use Rattle.link_check.specs.Stillness.{is_findable, is_left_over, is_open_name, is_still};
-ghost use Rattle.link_check.specs.Stillness.{is_still_half, is_still_whole, is_under_way};
+ghost use Rattle.link_check.specs.Stillness.{is_settled, is_still_half, is_still_whole, is_stirred};
+ghost use Rattle.link_check.specs.Stillness.{is_under_way, is_unsettled};
 
 use crate::delivery::{Delivery, is_session};
+use crate::rest::Stir;
 use link_tables::{Flow, Mark};
-use linx_base::{LinkNo, Name, Path, PendingHunt, Session};
+use linx_base::{LinkNo, Name, Path, Peer, PendingHunt, Session};
 use node_kernel::Kernel;
 use std::marker::Model;
 
@@ -117,6 +119,39 @@ impl<'a> Delivery<'a> {
         false
     }
 
+    /// Whether something that was stirred isn't settled in one direction.
+    fn is_stirred(
+        &self,
+        across: &Delivery<'_>,
+        session: Session,
+        other: Session,
+        stir: &Stir,
+    ) -> bool
+        ensures { result ≡ is_stirred self.now across.now session other stir.now }
+    {
+        match stir {
+            Stir::Sent(from, to) => {
+                let flow = Flow {
+                    at: *from,
+                    link: self.link,
+                    session: other,
+                    peer: *to,
+                };
+                self.is_under_way(across, session, flow)
+            }
+            Stir::Doubted(inc) => {
+                let peer = Peer::There {
+                    link: self.link,
+                    session,
+                    inc: *inc,
+                };
+                self.node.is_living(peer) && !across.node.is_open(*inc)
+            }
+            Stir::Hunted(name) => across.node.first(name).is_some() && self.any_findable(across),
+            Stir::Offered(inc) => across.node.is_open(*inc) && self.any_findable(across),
+        }
+    }
+
     /// Whether one direction is still.
     fn is_still_half(&self, across: &Delivery<'_>, session: Session, other: Session) -> bool
         ensures { result ≡ is_still_half self.now across.now session other }
@@ -143,6 +178,34 @@ impl<'a> Line<'a> {
             },
             None => false,
         }
+    }
+
+    /// Whether something that was stirred isn't settled.
+    fn is_unsettled(&self, stir: &Stir) -> bool
+        ensures { result ≡ is_unsettled self.now stir.now }
+    {
+        match self.first.here.up() {
+            Some(here) => match self.second.here.up() {
+                Some(there) => {
+                    self.first.is_stirred(&self.second, here, there, stir)
+                        || self.second.is_stirred(&self.first, there, here, stir)
+                }
+                None => false,
+            },
+            None => false,
+        }
+    }
+
+    /// Whether all that was stirred is settled.
+    pub(crate) fn is_settled(&self, stirs: &[Stir]) -> bool
+        ensures { result ≡ is_settled self.now stirs.now }
+    {
+        for stir in stirs {
+            if self.is_unsettled(stir) {
+                return false;
+            }
+        }
+        true
     }
 
     /// Whether the link is still.

@@ -41,20 +41,20 @@ loop-place-preserved c =
     is-get c.loop-place.lines c.loop-place.place c.index-lines-place.result less
     c.index-lines-place.is in
     let is : c.pass.new.self ≡ line_after (suc c.loop-place.place) c.ends_at-ends.result.now
-    c.args.step.now c.index-lines-place.result =
+    c.args.me c.args.step.now c.index-lines-place.result =
     c.in_ok-pass.ensures
-    ∙ ap (line_after (c.loop-place.place + 1) c.ends_at-ends.result.now c.args.step.now)
+    ∙ ap (line_after (c.loop-place.place + 1) c.ends_at-ends.result.now c.args.me c.args.step.now)
     (sym c.index-lines-place.is)
-    ∙ ap (λ (k : ℕ). line_after k c.ends_at-ends.result.now c.args.step.now
+    ∙ ap (λ (k : ℕ). line_after k c.ends_at-ends.result.now c.args.me c.args.step.now
     c.index-lines-place.result) (add-one c.loop-place.place) in
     record {
       counted = length-set c.loop-place.lines c.loop-place.place c.pass.new.self
           ∙ c.loop-place.invariant.counted;
-      done = pass-more c.args.lines.now c.loop-place.lines c.args.links.now c.args.step.now
+      done = pass-more c.args.lines.now c.loop-place.lines c.args.links.now c.args.me c.args.step.now
           c.loop-place.place c.pass.new.self c.index-lines-place.result
           c.ends_at-ends.result.now less c.loop-place.invariant.done
           c.loop-place.invariant.rest was_is c.ends_at-ends.ensures is;
-      rest = pass-rest c.args.lines.now c.loop-place.lines c.args.links.now c.args.step.now
+      rest = pass-rest c.args.lines.now c.loop-place.lines c.args.links.now c.args.me c.args.step.now
           c.loop-place.place c.pass.new.self c.index-lines-place.result
           c.ends_at-ends.result.now less c.loop-place.invariant.done
           c.loop-place.invariant.rest was_is c.ends_at-ends.ensures is;

@@ -9,6 +9,6 @@ invariant-loop-place l = record {
   counted : length l.lines ≡ length l.initial.lines;
   done : (k : ℕ) (x : LineSoFar) (ends : LinkDecl) → k < l.place
       → slice_get l.initial.lines k ≡ Some x → slice_get l.links k ≡ Some ends
-      → slice_get l.lines k ≡ Some (line_after (suc k) ends l.step x);
+      → slice_get l.lines k ≡ Some (line_after (suc k) ends l.me l.step x);
   rest : (k : ℕ) → l.place ≤ k → slice_get l.lines k ≡ slice_get l.initial.lines k;
 }
