@@ -90,7 +90,8 @@ abbrev pub dark_rule : Class → List ℕ
 dark_rule class = codes "." ++ class_name class ++ codes "{" ++ dark_look class ++ codes "}\n"
 
 -- the ground and the words of a light picture; that a row lights under the pointer; that words in
--- front aren't in its way; that labels have a halo, so that they are read over lines
+-- front aren't in its way; that labels have a halo, so that they are read over lines, but for those at
+-- the back, which no line passes
 unfoldable pub light_ground : List ℕ
 light_ground =
     codes "svg{background:#fff}\ntext{font:11px ui-monospace,'DejaVu Sans Mono',Menlo,"
@@ -98,7 +99,7 @@ light_ground =
     ++ codes ".row:hover .hit,.lit .hit{fill:#e69f00;fill-opacity:.2}\n"
     ++ codes ".front{pointer-events:none}\n"
     ++ codes ".label,.faint,.strong,.wrong-label{paint-order:stroke;stroke:#f6f9fc;"
-    ++ codes "stroke-width:9px;stroke-linejoin:round}\n"
+    ++ codes "stroke-width:11px;stroke-linejoin:round}\n.back text{stroke:none}\n"
 
 -- what is otherwise in a dark one
 unfoldable pub dark_ground : List ℕ

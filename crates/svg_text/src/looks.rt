@@ -17,7 +17,8 @@ pub(crate) fn light_ground() -> &'static [u8]
       .row:hover .hit,.lit .hit{fill:#e69f00;fill-opacity:.2}\n\
       .front{pointer-events:none}\n\
       .label,.faint,.strong,.wrong-label{paint-order:stroke;stroke:#f6f9fc;\
-      stroke-width:9px;stroke-linejoin:round}\n"
+      stroke-width:11px;stroke-linejoin:round}\n\
+      .back text{stroke:none}\n"
 }
 
 /// What is otherwise in a dark one.
