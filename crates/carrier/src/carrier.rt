@@ -42,26 +42,6 @@ impl Model for Carrier {
     ghost invariant = { λ c. KeepsLink c.link.was × KeepsLink c.link.is };
 }
 
-/// `Link::deliver`, and what it tells; what holds of a link still holds.
-fn bring(link: &mut Link, from: Side, k: usize, keep: bool) -> Result<Handed, NoMemory>
-    requires within { k < length (flight_from from link.old.is) }
-    requires grown { HasOnlyGrownFrom from link.old }
-    requires counted { HasNextAt (other_of from) link.old.is }
-    requires keeps { KeepsLink link.old.is }
-    ensures is { OnOk result (link.new.is ≡ delivered from k keep link.old.is) }
-    ensures was { link.new.was ≡ link.old.was }
-    ensures handed { IfOk result (λ handed. handed ≡ handed_by from k link.old.is) }
-    ensures keeps { OnOk result (KeepsLink link.new.is) }
-    ensures told { IfOk result (λ handed. TellsRightly (half_of (other_of from) link.old.is)
-        (half_of (other_of from) link.new.is) (half_of from link.old.is) handed) }
-    ensures told_down { IfOk result (λ handed. DownForGreater
-        (half_of (other_of from) link.old.is) (half_of from link.old.is) handed) }
-    ensures sender { OnOk result (half_of from link.new.is ≡ half_of from link.old.is) }
-{
-    let handed = link.deliver(from, k, keep)?;
-    Ok(handed)
-}
-
 /// `Link::tick`, and what it tells; what holds of a link still holds.
 fn beat(link: &mut Link, side: Side) -> Result<TickedSide, NoMemory>
     requires counted { HasNextAt side link.old.is }
@@ -146,7 +126,7 @@ impl Carrier {
             (half_of (other_of from) self.old.is) (half_of from self.old.is) handed) }
         ensures sender { OnOk result (half_of from self.new.is ≡ half_of from self.old.is) }
     {
-        match bring(&mut self.link, from, k, keep) {
+        match self.link.deliver(from, k, keep) {
             Ok(handed) => Ok(handed),
             Err(_) => {
                 self.link.undo();

@@ -112,32 +112,6 @@ impl Link {
         }
     }
 
-    /// The packet at place k from the first side comes to the second one.
-    fn come_there(&mut self, k: usize, keep: bool) -> Result<Handed, NoMemory>
-        requires within { k < length self.old.is.there }
-        requires grown { HasOnlyGrownFrom Side.First self.old }
-        requires counted { HasNext self.old.is.second.end.talk.mine }
-        ensures is { OnOk result (self.new.is ≡ delivered Side.First k keep self.old.is) }
-        ensures was { self.new.was ≡ self.old.was }
-        ensures handed { IfOk result (λ handed. handed ≡ handed_by Side.First k self.old.is) }
-    {
-        let handed = come(&mut self.second, &mut self.back, &mut self.there, k, keep)?;
-        Ok(handed)
-    }
-
-    /// The packet at place k from the second side comes to the first one.
-    fn come_back(&mut self, k: usize, keep: bool) -> Result<Handed, NoMemory>
-        requires within { k < length self.old.is.back }
-        requires grown { HasOnlyGrownFrom Side.Second self.old }
-        requires counted { HasNext self.old.is.first.end.talk.mine }
-        ensures is { OnOk result (self.new.is ≡ delivered Side.Second k keep self.old.is) }
-        ensures was { self.new.was ≡ self.old.was }
-        ensures handed { IfOk result (λ handed. handed ≡ handed_by Side.Second k self.old.is) }
-    {
-        let handed = come(&mut self.first, &mut self.there, &mut self.back, k, keep)?;
-        Ok(handed)
-    }
-
     /// The packet at place k from a side comes to the other one.
     pub(crate) fn deliver(&mut self, from: Side, k: usize, keep: bool) -> Result<Handed, NoMemory>
         requires within { k < length (flight_from from self.old.is) }
@@ -148,8 +122,14 @@ impl Link {
         ensures handed { IfOk result (λ handed. handed ≡ handed_by from k self.old.is) }
     {
         match from {
-            Side::First => self.come_there(k, keep),
-            Side::Second => self.come_back(k, keep),
+            Side::First => {
+                let handed = come(&mut self.second, &mut self.back, &mut self.there, k, keep)?;
+                Ok(handed)
+            }
+            Side::Second => {
+                let handed = come(&mut self.first, &mut self.there, &mut self.back, k, keep)?;
+                Ok(handed)
+            }
         }
     }
 
