@@ -9,7 +9,7 @@ use std::alloc::Global;
 use std::io::Print;
 use std::mem;
 use std::time::Clock;
-use trunk::{Trunk, TrunkUp};
+use trunk::{SideCall, Trunk, TrunkUp};
 
 /// The signals that are said before all packets come.
 const AT_ONCE: u32 = 8;
@@ -86,7 +86,7 @@ fn publish(t: &mut Trunk, talk: &Talk) -> anyhow::Result<()> {
     if t.frames_left(Side::Second) < 4_096 || !t.may_publish(Side::Second, talk.to, &talk.name) {
         bail!("the receiver may not be published");
     }
-    t.publish(Side::Second, talk.to, &talk.name)
+    t.call(Side::Second, SideCall::Published(talk.to, &talk.name))
         .context("publish")
 }
 
@@ -98,8 +98,8 @@ fn say(t: &mut Trunk, talk: &Talk) -> anyhow::Result<()> {
     {
         bail!("the receiver isn't met");
     }
-    t.send(Side::First, talk.from, &talk.name, talk.to, &talk.signal)
-        .context("send")
+    let said = SideCall::Sent(talk.from, &talk.name, talk.to, &talk.signal);
+    t.call(Side::First, said).context("send")
 }
 
 /// So many signals are said, and all packets come. The answer is how many signals arrived.

@@ -10,6 +10,7 @@ ghost use Rattle.ethcm_window.specs.Sending.{left_of};
 ghost use Rattle.carrier.specs.Events.{HasNextAt, flight_from, half_of, handed_by, is_quiet};
 ghost use Rattle.carrier.specs.Events.{link_told_by};
 ghost use Rattle.rlnh_end.specs.declared.heard.Heard.{Heard as AnyHeard};
+ghost use Rattle.trunk.specs.Calls.{HasNumbersFor, MayCall, SaysNothing, makes};
 ghost use Rattle.trunk.specs.Events.{IsReading, asked_at, closed_at, delivered, kept_of, lost_from};
 ghost use Rattle.trunk.specs.Events.{new_trunk, opened_at, published_at, restarted_at, sent_at};
 ghost use Rattle.trunk.specs.Events.{HasNumbersLeft, side_of, swapped_from, tables_of, ticked_at};
@@ -22,18 +23,17 @@ ghost use Rattle.trunk_record.specs.Trunks.{IsTrunk};
 ghost use Rattle.link_laws.specs.Ends.{node_at};
 ghost use Rattle.trunk_moves.specs.Packets.{place_of};
 ghost use Rattle.trunk_moves.specs.Trunks.{side_on};
-ghost use Rattle.run_trunks.specs.Calls.{HasNumbersFor, IsDown, MayCall, SaysNothing, makes};
+ghost use Rattle.run_trunks.specs.Calls.{IsDown};
 ghost use Rattle.run_trunks.specs.Changes.{AllGrant, at_link, each_does};
 ghost use Rattle.run_trunks.specs.States.{AllFit, HasLink, both_at, kept, kept_at, new_trunks};
 ghost use Rattle.run_trunks.specs.States.{over, resting, trunks_of, undone};
 
-use crate::call::SideCall;
 use crate::{links, slots};
 use carrier::TickedSide;
 use linx_base::{Inc, LinkDecl, LinkNo, Name, NoMemory, NodeNo, Session, Side, Signal};
 use std::alloc::Global;
 use std::marker::Model;
-use trunk::{Trunk, TrunkUp};
+use trunk::{SideCall, Trunk, TrunkUp};
 
 /// The links of a run, each with its trunk, with a way back. An event is a keep or an undo of all
 /// and the calls since the one before it. Contracts see the trunks as they were when the event

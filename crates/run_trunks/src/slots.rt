@@ -4,19 +4,19 @@ ghost use Rattle.std.specs.Prelude.{◌≡◌, ◌<◌, length, slice_set, IfOk,
 ghost use Rattle.linx_base.specs.Sides.{other_of};
 ghost use Rattle.carrier.specs.Events.{HasNextAt, flight_from, handed_by, link_told_by};
 ghost use Rattle.rlnh_end.specs.declared.heard.Heard.{Heard as AnyHeard};
+ghost use Rattle.trunk.specs.Calls.{HasNumbersFor, MayCall, SaysNothing, makes};
 ghost use Rattle.trunk.specs.Events.{IsReading, delivered, lost_from, swapped_from, ticked_at};
 ghost use Rattle.trunk.specs.Events.{HasNumbersLeft, told_by};
 ghost use Rattle.trunk.specs.Parts.{HasOnlyGrownAt};
 ghost use Rattle.trunk_moves.specs.Packets.{place_of};
-ghost use Rattle.run_trunks.specs.Calls.{HasNumbersFor, MayCall, SaysNothing, makes};
 ghost use Rattle.run_trunks.specs.Changes.{AllGrant, at_place, each_does};
 ghost use Rattle.run_trunks.specs.States.{is_of, trunk_at, was_of};
 
-use crate::call::{SideCall, call_side, call_side_if};
+use crate::call::call_side_if;
 use crate::links::side_on;
 use carrier::TickedSide;
 use linx_base::{LinkDecl, NoMemory, NodeNo, Side};
-use trunk::{Trunk, TrunkUp};
+use trunk::{SideCall, Trunk, TrunkUp};
 
 /// What is now stays.
 pub(crate) fn keep_all(trunks: &mut [Trunk])
@@ -54,7 +54,7 @@ pub(crate) fn call(
     ensures free { SaysNothing call.entry side (trunk_at (is_of trunks.old) place) → IsOk result }
     ensures err { OnErr result (is_of trunks.new ≡ was_of trunks.old) }
 {
-    match call_side(&mut trunks[place], side, call) {
+    match trunks[place].call(side, call) {
         Ok(()) => Ok(()),
         Err(_) => {
             undo_all(trunks);

@@ -6,4 +6,5 @@ pub mod AtRest
 pub mod FirstSide
 pub mod Tells
 pub mod Trunks
+pub mod OneCall
 pub mod Worked

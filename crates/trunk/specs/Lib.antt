@@ -7,3 +7,4 @@ pub mod Parts
 pub mod Promises
 pub mod Publishing
 pub mod Tells
+pub mod Calls

@@ -8,9 +8,11 @@ ghost use Rattle.rlnh_end.specs.Calls.{close_of, opened_of, publish_of, query_of
 ghost use Rattle.rlnh_end.specs.Hearing.{IsRead, hears};
 ghost use Rattle.rlnh_end.specs.States.{addr_met, after_out, next_of};
 ghost use Rattle.trunk.specs.Events.{new_trunk_side, told_up};
+ghost use Rattle.trunk.specs.Calls.{MaySay, saying_of};
 ghost use Rattle.trunk.specs.Publishing.{newest_unpublished};
 ghost use Rattle.trunk.specs.Parts.{side_begins, side_ends, side_hears, side_says};
 
+use crate::call::SideCall;
 use crate::history::History;
 use crate::note::Note;
 use crate::up::TrunkUp;
@@ -79,7 +81,7 @@ impl Half {
     }
 
     /// An endpoint of its node is published.
-    pub fn publish(&mut self, inc: Inc, name: &Name) -> Result<(), NoMemory>
+    fn publish(&mut self, inc: Inc, name: &Name) -> Result<(), NoMemory>
         requires room { HasAddressLeft self.old.is.end.tables.own }
         ensures is { let made = publish_of self.old.is.end.tables inc name.now in
             OnOk result (self.new.is ≡ side_says self.old.is made) }
@@ -97,7 +99,7 @@ impl Half {
     }
 
     /// An endpoint of its node opened.
-    pub fn opened(&mut self, inc: Inc, name: &Name) -> Result<(), NoMemory>
+    fn opened(&mut self, inc: Inc, name: &Name) -> Result<(), NoMemory>
         requires room { HasAddressLeft self.old.is.end.tables.own }
         ensures is { let made = opened_of self.old.is.end.tables inc name.now in
             OnOk result (self.new.is ≡ side_says self.old.is made) }
@@ -112,7 +114,7 @@ impl Half {
     }
 
     /// An endpoint of its node closes.
-    pub fn close(&mut self, inc: Inc) -> Result<(), NoMemory>
+    fn close(&mut self, inc: Inc) -> Result<(), NoMemory>
         ensures is { let made = close_of self.old.is.end.tables inc in
             OnOk result (self.new.is ≡ side_says self.old.is made) }
         ensures was { self.new.was ≡ self.old.was }
@@ -128,7 +130,7 @@ impl Half {
     }
 
     /// The other side is asked for a name.
-    pub fn query(&mut self, name: &Name) -> Result<(), NoMemory>
+    fn query(&mut self, name: &Name) -> Result<(), NoMemory>
         ensures is { let made = query_of self.old.is.end.tables name.now in
             OnOk result (self.new.is ≡ side_says self.old.is made) }
         ensures was { self.new.was ≡ self.old.was }
@@ -140,7 +142,7 @@ impl Half {
     }
 
     /// A signal is sent from an endpoint of its node, of this name, to a peer that was met.
-    pub fn send(&mut self, from: Inc, name: &Name, to: Inc, signal: &Signal) -> Result<(), NoMemory>
+    fn send(&mut self, from: Inc, name: &Name, to: Inc, signal: &Signal) -> Result<(), NoMemory>
         requires met { IsSome (addr_met self.old.is.end.tables.met to) }
         requires room { HasAddressLeft self.old.is.end.tables.own }
         ensures is { let made = send_of self.old.is.end.tables from name.now to signal.now in
@@ -159,6 +161,23 @@ impl Half {
         self.kept.note(Note::Published { inc: from, name });
         self.kept.note(Note::Signaled { from, to, signal });
         Ok(())
+    }
+
+    /// What a call asks for is said. A side that boots again says nothing.
+    pub fn say(&mut self, call: SideCall<'_>) -> Result<(), NoMemory>
+        requires may { MaySay call self.old.is.end.tables }
+        ensures is { let made = saying_of call.entry self.old.is.end.tables in
+            OnOk result (self.new.is ≡ side_says self.old.is made) }
+        ensures was { self.new.was ≡ self.old.was }
+    {
+        match call {
+            SideCall::Opened(inc, name) => self.opened(inc, name),
+            SideCall::Closed(inc) => self.close(inc),
+            SideCall::Restarted(_) => Ok(()),
+            SideCall::Published(inc, name) => self.publish(inc, name),
+            SideCall::Asked(name) => self.query(name),
+            SideCall::Sent(from, name, to, signal) => self.send(from, name, to, signal),
+        }
     }
 
     /// A message comes from the other side.

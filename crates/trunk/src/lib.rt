@@ -4,6 +4,7 @@
 //! happened, and what is promised of the record.
 #![tactic(auto)]
 
+mod call;
 mod half;
 mod history;
 mod laws;
@@ -13,6 +14,7 @@ mod steps;
 mod trunk;
 mod up;
 
+pub use call::SideCall;
 pub use laws::{
     events_keep, events_tell, messages_are_understood, quiet_ends_agree, quiet_is_complete,
     sides_agree, sides_offer, trunks_keep_promises, trunks_keep_records,

@@ -6,7 +6,7 @@ ghost use Rattle.linx_base.specs.Both.{still};
 ghost use Rattle.linx_base.specs.Frames.{IsMessage};
 ghost use Rattle.linx_base.specs.Numbers.{boot_of};
 ghost use Rattle.linx_base.specs.Sides.{other_of};
-ghost use Rattle.link_addresses.specs.Meanings.{address_of, used_in, HasAddressLeft};
+ghost use Rattle.link_addresses.specs.Meanings.{address_of, used_in};
 ghost use Rattle.ethcm_window.specs.Sending.{left_of};
 ghost use Rattle.ethcm_end.specs.Sound.{IsPiece};
 ghost use Rattle.ethcm_end.specs.States.{peer_of};
@@ -15,19 +15,20 @@ ghost use Rattle.carrier.specs.Events.{delivered as links_delivered, ticked_at a
 ghost use Rattle.carrier.specs.Events.{link_told_by, restarted_at as links_restarted};
 ghost use Rattle.carrier.specs.Laws.{TellsRightly, handed_of};
 ghost use Rattle.rlnh_end.specs.declared.heard.Heard.{Heard as AnyHeard};
-ghost use Rattle.rlnh_end.specs.Calls.{close_of, opened_of, publish_of, query_of, send_of};
 ghost use Rattle.rlnh_end.specs.Hearing.{IsRead, hears};
 ghost use Rattle.rlnh_end.specs.States.{addr_met};
 ghost use Rattle.trunk.specs.Events.{new_trunk, side_of, tables_of, taken_out, told_up};
 ghost use Rattle.trunk.specs.Events.{kept_of, lost_from, swapped_from, with_link};
+ghost use Rattle.trunk.specs.Calls.{MaySay, saying_of};
 ghost use Rattle.trunk.specs.Publishing.{newest_unpublished};
 ghost use Rattle.trunk.specs.Parts.{HasOnlyGrownAt, offers_to, sends_at, side_begins, side_ends};
 ghost use Rattle.trunk.specs.Parts.{side_hears, side_says, with_side};
 
+use crate::call::SideCall;
 use crate::half::Half;
 use crate::up::TrunkUp;
 use carrier::{Carrier, Handed, TickedSide};
-use linx_base::{Inc, Message, Name, NoMemory, Session, Side, Signal};
+use linx_base::{Inc, Message, NoMemory, Session, Side};
 use std::alloc::Global;
 use std::marker::Model;
 
@@ -262,107 +263,21 @@ impl Parts {
         }
     }
 
-    /// A side publishes an endpoint.
-    pub fn publish(&mut self, side: Side, inc: Inc, name: &Name) -> Result<(), NoMemory>
-        requires room { HasAddressLeft (tables_of side self.old.is).own }
-        ensures is { let made = publish_of (tables_of side self.old.is) inc name.now in
+    /// A side says what a call asks for.
+    pub fn say(&mut self, side: Side, call: SideCall<'_>) -> Result<(), NoMemory>
+        requires may { MaySay call (tables_of side self.old.is) }
+        ensures is { let made = saying_of call.entry (tables_of side self.old.is) in
             OnOk result (self.new.is
             ≡ with_side side self.old.is (side_says (side_of side self.old.is) made)) }
         ensures was { self.new.was ≡ self.old.was }
     {
         match side {
             Side::First => {
-                self.first.publish(inc, name)?;
+                self.first.say(call)?;
                 Ok(())
             }
             Side::Second => {
-                self.second.publish(inc, name)?;
-                Ok(())
-            }
-        }
-    }
-
-    /// An endpoint of a side opened.
-    pub fn opened(&mut self, side: Side, inc: Inc, name: &Name) -> Result<(), NoMemory>
-        requires room { HasAddressLeft (tables_of side self.old.is).own }
-        ensures is { let made = opened_of (tables_of side self.old.is) inc name.now in
-            OnOk result (self.new.is
-            ≡ with_side side self.old.is (side_says (side_of side self.old.is) made)) }
-        ensures was { self.new.was ≡ self.old.was }
-    {
-        match side {
-            Side::First => {
-                self.first.opened(inc, name)?;
-                Ok(())
-            }
-            Side::Second => {
-                self.second.opened(inc, name)?;
-                Ok(())
-            }
-        }
-    }
-
-    /// An endpoint of a side closes.
-    pub fn close(&mut self, side: Side, inc: Inc) -> Result<(), NoMemory>
-        ensures is { let made = close_of (tables_of side self.old.is) inc in
-            OnOk result (self.new.is
-            ≡ with_side side self.old.is (side_says (side_of side self.old.is) made)) }
-        ensures was { self.new.was ≡ self.old.was }
-    {
-        match side {
-            Side::First => {
-                self.first.close(inc)?;
-                Ok(())
-            }
-            Side::Second => {
-                self.second.close(inc)?;
-                Ok(())
-            }
-        }
-    }
-
-    /// A side asks for a name.
-    pub fn query(&mut self, side: Side, name: &Name) -> Result<(), NoMemory>
-        ensures is { let made = query_of (tables_of side self.old.is) name.now in
-            OnOk result (self.new.is
-            ≡ with_side side self.old.is (side_says (side_of side self.old.is) made)) }
-        ensures was { self.new.was ≡ self.old.was }
-    {
-        match side {
-            Side::First => {
-                self.first.query(name)?;
-                Ok(())
-            }
-            Side::Second => {
-                self.second.query(name)?;
-                Ok(())
-            }
-        }
-    }
-
-    /// A side sends a signal.
-    pub fn send(
-        &mut self,
-        side: Side,
-        from: Inc,
-        name: &Name,
-        to: Inc,
-        signal: &Signal,
-    ) -> Result<(), NoMemory>
-        requires met { IsSome (addr_met (tables_of side self.old.is).met to) }
-        requires room { HasAddressLeft (tables_of side self.old.is).own }
-        ensures is { let made = send_of (tables_of side self.old.is) from name.now to signal.now in
-            OnOk result (self.new.is
-            ≡ with_side side self.old.is (side_says (side_of side self.old.is) made)) }
-        ensures was { self.new.was ≡ self.old.was }
-    {
-        match side {
-            Side::First => {
-                self.first.send(from, name, to, signal)?;
-                Ok(())
-            }
-            Side::Second => {
-                self.second.send(from, name, to, signal)?;
+                self.second.say(call)?;
                 Ok(())
             }
         }

@@ -1,22 +1,18 @@
 //! What happens at a trunk: one function an event. After a refusal the event is to be undone.
-ghost use Rattle.std.specs.Prelude.{◌≡◌, ◌<◌, length, IfOk, IsOk, OnOk, IsTrue, None};
-ghost use Rattle.linx_base.specs.NameText.{is_name};
-ghost use Rattle.linx_base.specs.Numbers.{boot_of};
+ghost use Rattle.std.specs.Prelude.{◌≡◌, ◌<◌, length, IfOk, IsOk, OnOk};
 ghost use Rattle.linx_base.specs.Sides.{other_of};
-ghost use Rattle.ethcm_end.specs.States.{peer_of};
-ghost use Rattle.carrier.specs.Events.{HasNextAt, flight_from, half_of, handed_by, link_told_by};
+ghost use Rattle.carrier.specs.Events.{HasNextAt, flight_from, handed_by, link_told_by};
 ghost use Rattle.rlnh_end.specs.declared.heard.Heard.{Heard as AnyHeard};
-ghost use Rattle.trunk.specs.Events.{IsReading, asked_at, closed_at, delivered, opened_at};
-ghost use Rattle.trunk.specs.Events.{published_at, restarted_at, sent_at, side_of, ticked_at};
-ghost use Rattle.trunk.specs.Events.{told_by, HasNumbersLeft};
+ghost use Rattle.trunk.specs.Calls.{HasNumbersFor, IsNamed, MayCall, SaysNothing, makes};
+ghost use Rattle.trunk.specs.Events.{IsReading, delivered, ticked_at, told_by, HasNumbersLeft};
 ghost use Rattle.trunk.specs.Keeping.{KeepsTrunk};
-ghost use Rattle.trunk.specs.Laws.{MayPublish, MaySend};
 ghost use Rattle.trunk.specs.Parts.{HasOnlyGrownAt};
 
+use crate::call::SideCall;
 use crate::parts::Parts;
 use crate::up::TrunkUp;
 use carrier::{Handed, TickedSide};
-use linx_base::{Inc, Name, NoMemory, Session, Side, Signal};
+use linx_base::{NoMemory, Session, Side};
 
 /// The packet at place k from a side comes to the other one.
 pub(crate) fn deliver(
@@ -79,104 +75,30 @@ pub(crate) fn tick(parts: &mut Parts, side: Side) -> Result<TickedSide, NoMemory
     }
 }
 
-/// A side boots again.
-pub(crate) fn restart(parts: &mut Parts, side: Side, boot: u32) -> Result<(), NoMemory>
-    requires later { boot_of (half_of side parts.old.is.link).end.talk.mine < boot }
+/// A side is called: it boots again, or says what the call asks for, where it is up.
+pub(crate) fn call(parts: &mut Parts, side: Side, call: SideCall<'_>) -> Result<(), NoMemory>
+    requires may { MayCall call side parts.old.is }
+    requires numbers { HasNumbersFor call side parts.old.is }
     requires keeps { KeepsTrunk parts.old.is }
-    ensures is { OnOk result (parts.new.is ≡ restarted_at side boot parts.old.is) }
+    ensures is { OnOk result (parts.new.is ≡ makes call.entry side parts.old.is) }
     ensures was { parts.new.was ≡ parts.old.was }
+    ensures free { SaysNothing call.entry side parts.old.is → IsOk result }
+    ensures named { IsNamed call.entry }
 {
-    parts.boot_again(side, boot)?;
-    parts.begin_session(side, Session::of(boot, 1))?;
-    Ok(())
-}
-
-/// An endpoint is published, where its side is up.
-pub(crate) fn publish(parts: &mut Parts, side: Side, inc: Inc, name: &Name) -> Result<(), NoMemory>
-    requires may { MayPublish (side_of side parts.old.is) inc name.now }
-    requires left { HasNumbersLeft side parts.old.is }
-    requires keeps { KeepsTrunk parts.old.is }
-    ensures is { OnOk result (parts.new.is ≡ published_at side inc name.now parts.old.is) }
-    ensures was { parts.new.was ≡ parts.old.was }
-    ensures free { peer_of (half_of side parts.old.is.link).end ≡ None → IsOk result }
-{
-    if !parts.is_up(side) {
-        return Ok(());
+    call.bytes_of_name();
+    match call {
+        SideCall::Restarted(boot) => {
+            parts.boot_again(side, boot)?;
+            parts.begin_session(side, Session::of(boot, 1))?;
+            Ok(())
+        }
+        _ => {
+            if !parts.is_up(side) {
+                return Ok(());
+            }
+            parts.say(side, call)?;
+            parts.send_out(side)?;
+            Ok(())
+        }
     }
-    parts.publish(side, inc, name)?;
-    parts.send_out(side)?;
-    Ok(())
-}
-
-/// An endpoint opened.
-pub(crate) fn opened(parts: &mut Parts, side: Side, inc: Inc, name: &Name) -> Result<(), NoMemory>
-    requires may { MayPublish (side_of side parts.old.is) inc name.now }
-    requires left { HasNumbersLeft side parts.old.is }
-    requires keeps { KeepsTrunk parts.old.is }
-    ensures is { OnOk result (parts.new.is ≡ opened_at side inc name.now parts.old.is) }
-    ensures was { parts.new.was ≡ parts.old.was }
-    ensures free { peer_of (half_of side parts.old.is.link).end ≡ None → IsOk result }
-{
-    if !parts.is_up(side) {
-        return Ok(());
-    }
-    parts.opened(side, inc, name)?;
-    parts.send_out(side)?;
-    Ok(())
-}
-
-/// An endpoint closes.
-pub(crate) fn close(parts: &mut Parts, side: Side, inc: Inc) -> Result<(), NoMemory>
-    requires left { HasNumbersLeft side parts.old.is }
-    requires keeps { KeepsTrunk parts.old.is }
-    ensures is { OnOk result (parts.new.is ≡ closed_at side inc parts.old.is) }
-    ensures was { parts.new.was ≡ parts.old.was }
-    ensures free { peer_of (half_of side parts.old.is.link).end ≡ None → IsOk result }
-{
-    if !parts.is_up(side) {
-        return Ok(());
-    }
-    parts.close(side, inc)?;
-    parts.send_out(side)?;
-    Ok(())
-}
-
-/// A name is asked for.
-pub(crate) fn query(parts: &mut Parts, side: Side, name: &Name) -> Result<(), NoMemory>
-    requires left { HasNumbersLeft side parts.old.is }
-    requires keeps { KeepsTrunk parts.old.is }
-    ensures is { OnOk result (parts.new.is ≡ asked_at side name.now parts.old.is) }
-    ensures was { parts.new.was ≡ parts.old.was }
-    ensures free { peer_of (half_of side parts.old.is.link).end ≡ None → IsOk result }
-    ensures named { IsTrue (is_name name.now) }
-{
-    // The bytes of a name spell one.
-    name.bytes();
-    if !parts.is_up(side) {
-        return Ok(());
-    }
-    parts.query(side, name)?;
-    parts.send_out(side)?;
-    Ok(())
-}
-
-/// A signal is sent to a peer that was met, so from a side that is up.
-pub(crate) fn send(
-    parts: &mut Parts,
-    side: Side,
-    from: Inc,
-    name: &Name,
-    to: Inc,
-    signal: &Signal,
-) -> Result<(), NoMemory>
-    requires may { MaySend (side_of side parts.old.is) from name.now to signal.now }
-    requires left { HasNumbersLeft side parts.old.is }
-    requires keeps { KeepsTrunk parts.old.is }
-    ensures is { OnOk result
-        (parts.new.is ≡ sent_at side from name.now to signal.now parts.old.is) }
-    ensures was { parts.new.was ≡ parts.old.was }
-{
-    parts.send(side, from, name, to, signal)?;
-    parts.send_out(side)?;
-    Ok(())
 }

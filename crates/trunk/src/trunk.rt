@@ -1,8 +1,7 @@
-ghost use Rattle.std.specs.Prelude.{◌≡◌, ◌≢◌, ◌≤◌, ◌<◌, true, ◌&&◌, length, map, IfOk, IsOk, OnOk};
-ghost use Rattle.std.specs.Prelude.{OnErr, None, [], ◌∷◌};
+ghost use Rattle.std.specs.Prelude.{◌≡◌, ◌≤◌, ◌<◌, true, ◌&&◌, length, map, IfOk, IsOk, OnOk};
+ghost use Rattle.std.specs.Prelude.{OnErr};
 ghost use Rattle.linx_base.specs.declared.identity.Side.{Side as AnySide};
 ghost use Rattle.linx_base.specs.Both.{still};
-ghost use Rattle.linx_base.specs.Numbers.{boot_of, first_session};
 ghost use Rattle.linx_base.specs.Sides.{other_of};
 ghost use Rattle.link_addresses.specs.Meanings.{used_in};
 ghost use Rattle.ethcm_window.specs.Sending.{left_of};
@@ -10,24 +9,21 @@ ghost use Rattle.ethcm_end.specs.Sound.{IsPiece};
 ghost use Rattle.ethcm_end.specs.States.{peer_of};
 ghost use Rattle.carrier.specs.Events.{flight_from, half_of, handed_by, is_quiet, HasNextAt};
 ghost use Rattle.carrier.specs.Events.{link_told_by};
-ghost use Rattle.trunk_record.specs.Changes.{beginning, says_sending};
-ghost use Rattle.trunk_record.specs.Sayings.{asked, heard_as, is_live};
+ghost use Rattle.trunk_record.specs.Sayings.{heard_as, is_live};
 ghost use Rattle.trunk_record.specs.Trunks.{IsQuiet, IsTrunk};
 ghost use Rattle.rlnh_end.specs.declared.heard.Heard.{Heard as AnyHeard};
-ghost use Rattle.rlnh_end.specs.States.{without_note};
-ghost use Rattle.trunk.specs.Events.{IsReading, asked_at, closed_at, delivered, kept_of, lost_from};
-ghost use Rattle.trunk.specs.Events.{new_trunk, opened_at, published_at, restarted_at, sent_at};
-ghost use Rattle.trunk.specs.Events.{side_of, swapped_from, tables_of, ticked_at, told_by};
-ghost use Rattle.trunk.specs.Events.{HasNumbersLeft};
+ghost use Rattle.trunk.specs.Calls.{HasNumbersFor, MayCall, SaysNothing, TellsCall, makes};
+ghost use Rattle.trunk.specs.Events.{HasNumbersLeft, IsReading, delivered, kept_of, lost_from};
+ghost use Rattle.trunk.specs.Events.{new_trunk, side_of, swapped_from, tables_of, ticked_at};
+ghost use Rattle.trunk.specs.Events.{told_by};
 ghost use Rattle.trunk.specs.Keeping.{KeepsTrunk};
 ghost use Rattle.trunk.specs.Laws.{MayPublish, MaySend};
 ghost use Rattle.trunk.specs.Parts.{HasOnlyGrownAt};
 ghost use Rattle.trunk.specs.Promises.{TrunkPromises};
 ghost use Rattle.trunk.specs.Publishing.{can_publish};
-ghost use Rattle.trunk.specs.Tells.{DownForLater, SideSays, TellsNotes, TellsSide, noted_of};
-ghost use Rattle.trunk.specs.Tells.{notes_opening, notes_sending, publishing, says_closing};
-ghost use Rattle.trunk.specs.Tells.{says_opening, up_of_tick};
+ghost use Rattle.trunk.specs.Tells.{DownForLater, TellsNotes, TellsSide, noted_of, up_of_tick};
 
+use crate::call::SideCall;
 use crate::parts::Parts;
 use crate::steps;
 use crate::up::TrunkUp;
@@ -139,163 +135,23 @@ impl Trunk {
         }
     }
 
-    /// A side boots again. A refusal undoes the event.
-    pub fn restart(&mut self, side: Side, boot: u32) -> Result<(), NoMemory>
-        requires later { boot_of (half_of side self.old.is.link).end.talk.mine < boot }
-        ensures is { OnOk result (self.new.is ≡ restarted_at side boot self.old.is) }
-        ensures was { self.new.was ≡ self.old.was }
-        ensures err { OnErr result (self.new ≡ still self.old.was) }
-        // The session is recorded, and the other side stays as it is.
-        ensures told { OnOk result
-            (kept_of side self.new.is ≡ beginning (first_session boot) (kept_of side self.old.is)) }
-        ensures other { OnOk result
-            (side_of (other_of side) self.new.is ≡ side_of (other_of side) self.old.is) }
-    {
-        match steps::restart(&mut self.parts, side, boot) {
-            Ok(()) => Ok(()),
-            Err(_) => {
-                self.parts.undo();
-                Err(NoMemory)
-            }
-        }
-    }
-
-    /// An endpoint of a side is published, where the side is up and it isn't published yet; the
-    /// note of its name goes away. A refusal undoes the event.
-    pub fn publish(&mut self, side: Side, inc: Inc, name: &Name) -> Result<(), NoMemory>
-        requires may { MayPublish (side_of side self.old.is) inc name.now }
-        requires left { HasNumbersLeft side self.old.is }
-        ensures is { OnOk result (self.new.is ≡ published_at side inc name.now self.old.is) }
+    /// A side is called: where it is up, it says what the call asks for, as that an endpoint opened
+    /// whose name it has noted. Who sends has met a peer, so its side is up; the sender is published
+    /// first where it isn't yet. Or the side boots again. A refusal undoes the event.
+    pub fn call(&mut self, side: Side, call: SideCall<'_>) -> Result<(), NoMemory>
+        requires may { MayCall call side self.old.is }
+        requires numbers { HasNumbersFor call side self.old.is }
+        ensures is { OnOk result (self.new.is ≡ makes call.entry side self.old.is) }
         ensures was { self.new.was ≡ self.old.was }
         ensures err { OnErr result (self.new ≡ still self.old.was) }
         // A side that isn't up says nothing, and needs no memory for it.
-        ensures free { peer_of (half_of side self.old.is.link).end ≡ None → IsOk result }
-        // What the side says, and what becomes of its notes.
-        ensures says { OnOk result ((kept_of side self.old.is).now.peer ≢ None
-            → SideSays side self.old.is self.new.is
-            (publishing inc name.now (kept_of side self.old.is))
-            (without_note (noted_of side self.old.is) name.now)) }
-        ensures down { OnOk result ((kept_of side self.old.is).now.peer ≡ None
-            → self.new.is ≡ self.old.is) }
+        ensures free { SaysNothing call.entry side self.old.is → IsOk result }
+        // What the side says, and what becomes of its notes; the other side stays as it is.
+        ensures told { OnOk result (TellsCall call.entry side self.old.is self.new.is) }
         ensures other { OnOk result
             (side_of (other_of side) self.new.is ≡ side_of (other_of side) self.old.is) }
     {
-        match steps::publish(&mut self.parts, side, inc, name) {
-            Ok(()) => Ok(()),
-            Err(_) => {
-                self.parts.undo();
-                Err(NoMemory)
-            }
-        }
-    }
-
-    /// An endpoint of a side opened: where the side is up, it is published where its name is noted.
-    /// A refusal undoes the event.
-    pub fn opened(&mut self, side: Side, inc: Inc, name: &Name) -> Result<(), NoMemory>
-        requires may { MayPublish (side_of side self.old.is) inc name.now }
-        requires left { HasNumbersLeft side self.old.is }
-        ensures is { OnOk result (self.new.is ≡ opened_at side inc name.now self.old.is) }
-        ensures was { self.new.was ≡ self.old.was }
-        ensures err { OnErr result (self.new ≡ still self.old.was) }
-        // A side that isn't up says nothing, and needs no memory for it.
-        ensures free { peer_of (half_of side self.old.is.link).end ≡ None → IsOk result }
-        // What the side says, and what becomes of its notes.
-        ensures says { OnOk result ((kept_of side self.old.is).now.peer ≢ None
-            → SideSays side self.old.is self.new.is
-            (says_opening inc name.now (noted_of side self.old.is) (kept_of side self.old.is))
-            (notes_opening name.now (noted_of side self.old.is))) }
-        ensures down { OnOk result ((kept_of side self.old.is).now.peer ≡ None
-            → self.new.is ≡ self.old.is) }
-        ensures other { OnOk result
-            (side_of (other_of side) self.new.is ≡ side_of (other_of side) self.old.is) }
-    {
-        match steps::opened(&mut self.parts, side, inc, name) {
-            Ok(()) => Ok(()),
-            Err(_) => {
-                self.parts.undo();
-                Err(NoMemory)
-            }
-        }
-    }
-
-    /// An endpoint of a side closes: where the side is up and it is published, that is said. A
-    /// refusal undoes the event.
-    pub fn close(&mut self, side: Side, inc: Inc) -> Result<(), NoMemory>
-        requires left { HasNumbersLeft side self.old.is }
-        ensures is { OnOk result (self.new.is ≡ closed_at side inc self.old.is) }
-        ensures was { self.new.was ≡ self.old.was }
-        ensures err { OnErr result (self.new ≡ still self.old.was) }
-        // A side that isn't up says nothing, and needs no memory for it.
-        ensures free { peer_of (half_of side self.old.is.link).end ≡ None → IsOk result }
-        // What the side says, and what becomes of its notes.
-        ensures says { OnOk result ((kept_of side self.old.is).now.peer ≢ None
-            → SideSays side self.old.is self.new.is (says_closing inc (kept_of side self.old.is))
-            (noted_of side self.old.is)) }
-        ensures down { OnOk result ((kept_of side self.old.is).now.peer ≡ None
-            → self.new.is ≡ self.old.is) }
-        ensures other { OnOk result
-            (side_of (other_of side) self.new.is ≡ side_of (other_of side) self.old.is) }
-    {
-        match steps::close(&mut self.parts, side, inc) {
-            Ok(()) => Ok(()),
-            Err(_) => {
-                self.parts.undo();
-                Err(NoMemory)
-            }
-        }
-    }
-
-    /// The other side is asked for a name, where the side is up. A refusal undoes the event.
-    pub fn query(&mut self, side: Side, name: &Name) -> Result<(), NoMemory>
-        requires left { HasNumbersLeft side self.old.is }
-        ensures is { OnOk result (self.new.is ≡ asked_at side name.now self.old.is) }
-        ensures was { self.new.was ≡ self.old.was }
-        ensures err { OnErr result (self.new ≡ still self.old.was) }
-        // A side that isn't up says nothing, and needs no memory for it.
-        ensures free { peer_of (half_of side self.old.is.link).end ≡ None → IsOk result }
-        // What the side says, and what becomes of its notes.
-        ensures says { OnOk result ((kept_of side self.old.is).now.peer ≢ None
-            → SideSays side self.old.is self.new.is (asked name.now ∷ [])
-            (noted_of side self.old.is)) }
-        ensures down { OnOk result ((kept_of side self.old.is).now.peer ≡ None
-            → self.new.is ≡ self.old.is) }
-        ensures other { OnOk result
-            (side_of (other_of side) self.new.is ≡ side_of (other_of side) self.old.is) }
-    {
-        match steps::query(&mut self.parts, side, name) {
-            Ok(()) => Ok(()),
-            Err(_) => {
-                self.parts.undo();
-                Err(NoMemory)
-            }
-        }
-    }
-
-    /// A signal is sent from an endpoint of a side, of this name, to a peer that it has met; so the
-    /// side is up. The sender is published first where it isn't yet. A refusal undoes the event.
-    pub fn send(
-        &mut self,
-        side: Side,
-        from: Inc,
-        name: &Name,
-        to: Inc,
-        signal: &Signal,
-    ) -> Result<(), NoMemory>
-        requires may { MaySend (side_of side self.old.is) from name.now to signal.now }
-        requires left { HasNumbersLeft side self.old.is }
-        ensures is { OnOk result
-            (self.new.is ≡ sent_at side from name.now to signal.now self.old.is) }
-        ensures was { self.new.was ≡ self.old.was }
-        ensures err { OnErr result (self.new ≡ still self.old.was) }
-        // What the side says, and what becomes of its notes.
-        ensures says { let kept = kept_of side self.old.is in
-            OnOk result (SideSays side self.old.is self.new.is
-            (says_sending from name.now to signal.now kept)
-            (notes_sending from name.now kept (noted_of side self.old.is))) }
-        ensures other { OnOk result
-            (side_of (other_of side) self.new.is ≡ side_of (other_of side) self.old.is) }
-    {
-        match steps::send(&mut self.parts, side, from, name, to, signal) {
+        match steps::call(&mut self.parts, side, call) {
             Ok(()) => Ok(()),
             Err(_) => {
                 self.parts.undo();

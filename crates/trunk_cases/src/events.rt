@@ -3,7 +3,7 @@
 use carrier::TickedSide;
 use linx_base::{Inc, Name, Side, Signal};
 use std::test::Fail;
-use trunk::{Trunk, TrunkUp};
+use trunk::{SideCall, Trunk, TrunkUp};
 
 /// The packet at place k from a side comes to the other one.
 pub fn deliver(t: &mut Trunk, from: Side, k: usize, keep: bool) -> Result<TrunkUp, Fail> {
@@ -35,7 +35,7 @@ pub fn restart(t: &mut Trunk, side: Side, boot: u32) -> Result<(), Fail> {
     if t.mine(side).boot() >= boot {
         return Err(Fail::from("no later boot"));
     }
-    t.restart(side, boot)?;
+    t.call(side, SideCall::Restarted(boot))?;
     Ok(())
 }
 
@@ -72,9 +72,9 @@ pub fn publish(
         return Ok(false);
     }
     if is_new {
-        t.opened(side, inc, name)?;
+        t.call(side, SideCall::Opened(inc, name))?;
     } else {
-        t.publish(side, inc, name)?;
+        t.call(side, SideCall::Published(inc, name))?;
     }
     Ok(true)
 }
@@ -85,7 +85,7 @@ pub fn close(t: &mut Trunk, side: Side, inc: Inc) -> Result<(), Fail> {
     if t.frames_left(side) < 4_096 {
         return Err(Fail::from("no numbers are left"));
     }
-    t.close(side, inc)?;
+    t.call(side, SideCall::Closed(inc))?;
     Ok(())
 }
 
@@ -95,7 +95,7 @@ pub fn query(t: &mut Trunk, side: Side, name: &Name) -> Result<(), Fail> {
     if t.frames_left(side) < 4_096 {
         return Err(Fail::from("no numbers are left"));
     }
-    t.query(side, name)?;
+    t.call(side, SideCall::Asked(name))?;
     Ok(())
 }
 
@@ -112,6 +112,6 @@ pub fn send(
     if t.frames_left(side) < 4_096 || !t.may_send(side, from, name, to, signal) {
         return Ok(false);
     }
-    t.send(side, from, name, to, signal)?;
+    t.call(side, SideCall::Sent(from, name, to, signal))?;
     Ok(true)
 }

@@ -1,5 +1,5 @@
 use Rattle.std.proofs.Common.{◌<◌, ◌∙◌, sym, length, arith, true≢false}
-use Rattle.run_trunks.specs.Calls.{HasNumbersFor, MayCall, SaysNothing, makes}
+use Rattle.trunk.specs.Calls.{HasNumbersFor, MayCall, SaysNothing, makes}
 use Rattle.run_trunks.specs.States.{is_of}
 use Rattle.run_trunks.proofs.Placed.{calls-more, granted-there, was_stays}
 use Rattle.run_trunks.proofs.slots.call_each.Goals as goal

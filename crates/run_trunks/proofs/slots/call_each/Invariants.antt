@@ -1,5 +1,5 @@
 use Rattle.std.proofs.Common.{◌≡◌, take}
-use Rattle.run_trunks.specs.Calls.{makes}
+use Rattle.trunk.specs.Calls.{makes}
 use Rattle.run_trunks.specs.Changes.{each_does}
 use Rattle.run_trunks.specs.States.{is_of, was_of}
 use Rattle.run_trunks.proofs.slots.call_each.Given as goal
