@@ -37,7 +37,7 @@ LAYERS = [
     ("The machine", "fabric"),
     ("A journal checked", "link_tables link_check journal_check"),
     ("The script", "script_words script_lang work_gen script_texts line_search order_lines turn_lines"),
-    ("A run of a script", "actor_run stage run_orders orders runs_again"),
+    ("A run of a script", "relay_steps actor_run stage run_orders orders runs_again"),
     ("Runs in many orders", "order_rules run_outcomes outcome_tally seed_runs seed_search"
                             " seed_threads seed_report"),
     ("Threads", "turn_lock linx_api workers"),

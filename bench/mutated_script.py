@@ -17,8 +17,8 @@ import random_script
 
 EXAMPLES = sorted(pathlib.Path(__file__).resolve().parent.parent.glob("examples/*.linx"))
 BYTES = b"\x00\t\r\n #:/<>_-.09AZaz\x7f\x80\xff"
-WORDS = ("node link plan actor end open close send forward recv hunt attach detach keep cut mend "
-         "settle restart repeat any not self last window piece D L R S1 S9 S0 > < n1 l0 p0 a "
+WORDS = ("node link plan actor relay end open close send forward recv hunt attach detach keep cut "
+         "mend settle restart repeat any not self last window piece D L R S1 S9 S0 > < n1 l0 p0 a "
          "l0/a hex: hex:0 hex:00 fill:0:00 fill:1:00 fill:32:0a fill:33:0a fill:65531:00 "
          "fill:65532:00 fill:65533:00 fill:1:0 0 1 2 63 64 256 257 8192 8193 20000 20001 251 252 "
          "0251 4294967295 4294967296 00000000001 #x " + "x" * 32 + " " + "x" * 33).split()

@@ -1,5 +1,5 @@
 """Writes one random script, the same one for the same seed: with links, or with the word `alone`
-without one, on one or two nodes.
+without one, on one or two nodes. With the word `relays` it has links and one to three relays.
 
 Its links lose, repeat and exchange packets by plans, have small windows and pieces, and are cut
 and mended; its nodes are restarted. In two of five scripts links are settled too. Of four seeds in
@@ -8,7 +8,7 @@ sense then; one a varied one: they do anything, and more of it is refused; and o
 nodes restart and endpoints open and close again and again, while packets are repeated and
 exchanged.
 
-    bench/try random_script SEED [alone]
+    bench/try random_script SEED [alone|relays]
 """
 import random
 import sys
@@ -30,14 +30,15 @@ COMMANDS = (SENSIBLE, VARIED, SENSIBLE, RESTLESS)
 class Writer:
     """The lines of a script in the making, and what they declared."""
 
-    def __init__(self, seed, alone=False):
+    def __init__(self, seed, alone=False, relays=False):
         self.random = random.Random(seed)
-        self.alone = alone
+        self.alone, self.relays = alone, relays
         self.commands = COMMANDS[seed % len(COMMANDS)]
         self.sensible = self.commands is not VARIED
         self.restless = self.commands is RESTLESS
         self.settles = self.chance(0.4) and not alone
         self.lines, self.nodes, self.links, self.actors = [], [], [], []
+        self.relayed = []
 
     def chance(self, share):
         """Whether something is done that is done in this share of the cases."""
@@ -57,8 +58,12 @@ class Writer:
                 if self.chance(0.9 if self.restless else 0.6):
                     self.write_plan(name, direction)
         self.place_actors()
+        relays = [self.relay(number) for number in range(self.pick(1, 1, 2, 3) if self.relays else 0)]
+        first = self.random.randint(0, len(relays)) if relays else 0
+        self.lines += relays[:first]
         for number in range(len(self.actors)):
             self.write_actor(number)
+        self.lines += relays[first:]
         return "\n".join(self.lines) + "\n"
 
     def write_nodes(self):
@@ -97,6 +102,14 @@ class Writer:
             node = used[number % len(used)] if self.chance(0.7) else self.random.choice(self.nodes)
             self.actors.append((node, NAMES[number]))
 
+    def relay(self, number):
+        """A relay at an end of a link, for an actor's name or an earlier relay's behind one."""
+        node = self.random.choice(self.random.choice(self.links)[1])
+        link = self.random.choice([link for link, ends in self.links if node in ends])
+        names = [name for _, name in self.actors] + self.relayed * 2
+        self.relayed.append(f"v{number}")
+        return f"relay r{number} {node} v{number} {link}/{self.random.choice(names)}"
+
     def write_actor(self, number):
         """An actor's block."""
         node, name = self.actors[number]
@@ -131,6 +144,8 @@ class Writer:
         node = self.actors[number][0]
         others = [name for place, (_, name) in enumerate(self.actors) if place != number]
         path = self.random.choice(others if others and self.sensible else NAMES)
+        if self.relayed and self.chance(0.7):
+            path = self.random.choice(self.relayed)
         mine = [link for link, ends in self.links if node in ends]
         if mine and self.chance(0.9):
             path = f"{self.random.choice(mine)}/{path}"
@@ -201,4 +216,5 @@ class Writer:
 
 
 if __name__ == "__main__":
-    sys.stdout.write(Writer(int(sys.argv[1]), sys.argv[2:] == ["alone"]).script())
+    SEED, *KIND = sys.argv[1:]
+    sys.stdout.write(Writer(int(SEED), KIND == ["alone"], KIND == ["relays"]).script())

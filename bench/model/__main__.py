@@ -5,7 +5,9 @@ A plain interpreter of the scripts of docs/use/script.md, beside which bench/bes
 the program. It is made for reading: no rule here is taken from the program's code. The script must
 be a good one; one that fills a journal is refused with exit status 2.
 
-    bench/try model [S] < SCRIPT
+With the word `hops` it writes a line for each relay in place of the text.
+
+    bench/try model [S] [hops] < SCRIPT
 """
 import sys
 
@@ -21,11 +23,12 @@ def main(words):
     """The text of the script on standard input, or why there is none."""
     try:
         run = Run(parse(sys.stdin.read()))
-        text = orders.play(run, int(words[0])) if words else orders.play_fixed(run)
+        seeds = [int(word) for word in words if word != "hops"]
+        text = orders.play(run, *seeds) if seeds else orders.play_fixed(run)
     except Refused as reason:
         print(f"model: {reason}", file=sys.stderr)
         return 2
-    sys.stdout.write(text)
+    sys.stdout.write(run.hops() if "hops" in words else text)
     return 0
 
 

@@ -1,4 +1,4 @@
-"""Turns: what an actor's next command does (docs/use/script.md)."""
+"""Turns: what an actor's next command does (docs/use/script.md), and what every actor does alike."""
 from values import Here, filter_of, signal_of
 
 NEED_PEER = ("send", "forward", "attach")
@@ -6,15 +6,12 @@ NEED_ENDPOINT = ("close", "send", "forward", "recv", "hunt", "attach", "detach")
 FOUND, ENDED = 251, 252
 
 
-class Actor:
-    """An actor: its place in its commands, its endpoint, and what it took, kept and attached."""
+class Player:
+    """Who takes turns on a node: its endpoint, and the item that it took last."""
 
-    def __init__(self, number, block, node, run):
+    def __init__(self, number, node, run):
         self.number, self.maker, self.node, self.run = number, f"A{number}", node, run
-        self.commands, self.place = block.commands, 0
-        self.endpoint = None
-        self.last, self.buffer = None, None
-        self.kept, self.attaches = {}, {}
+        self.endpoint, self.item = None, None
         self.waits, self.has_ended = None, False
 
     def has_endpoint(self):
@@ -26,28 +23,89 @@ class Actor:
         waiting = self.waits is not None and self.has_endpoint()
         return waiting and self.endpoint.first(self.waits) is None
 
+    def turn(self, journal):
+        """Makes the step that comes next, and what goes on behind it; no step where the actor waits
+        on."""
+        if self.has_ended:
+            return
+        journal.want_room()
+        head = self.step()
+        if not head:
+            return
+        journal.step(self.maker, *head)
+        if head[0] == "settle":
+            self.run.link(head[1]).settle(journal, self.maker)
+
+    def end(self):
+        """Closes the endpoint, and has ended."""
+        if self.has_endpoint():
+            self.node.close(self.endpoint)
+        self.has_ended = True
+        return ("ended",)
+
+    def look(self, selected):
+        """The head of a receive: it takes the first selected item, finds none where all else is at
+        rest, or waits, which is said once and makes no step then."""
+        incarnation, journal = self.endpoint.incarnation, self.node.journal
+        item = self.endpoint.first(selected)
+        if item is None and not self.run.is_at_rest(self):
+            began, self.waits = self.waits is None, selected
+            return ("waits", selected) if began else None
+        self.waits = None
+        if item is None:
+            journal.log(incarnation, "none")
+            return "none", selected
+        self.endpoint.queue.remove(item)
+        self.item = item
+        journal.log(incarnation, "took", item.sender, item.signal)
+        return "take", selected, "%d.%d" % item.position
+
+    # What is done with the endpoint: the head of each step.
+
+    def do_open(self, name):
+        """`open`."""
+        self.endpoint = self.node.open(name)
+        return "open", name
+
+    def do_close(self):
+        """`close`."""
+        self.node.close(self.endpoint)
+        return ("close",)
+
+    def send(self, peer, signal):
+        """Sends a signal."""
+        return "send", peer, signal, self.node.send(self.endpoint, peer, signal)
+
+    def hunt(self, path, signal):
+        """Hunts a path."""
+        self.node.hunt(self.endpoint, path, signal)
+        return "hunt", path, signal
+
+    def attach(self, peer, signal):
+        """Attaches to a peer."""
+        self.node.attach(self.endpoint, peer, signal)
+        return "attach", peer, signal
+
+
+class Actor(Player):
+    """An actor with commands: its place in them, and what it took, kept and attached."""
+
+    def __init__(self, number, block, node, run):
+        super().__init__(number, node, run)
+        self.commands, self.place = block.commands, 0
+        self.last, self.buffer = None, None
+        self.kept, self.attaches = {}, {}
+
     def peer(self, word):
         """The peer that a TO spells, or None."""
         if word == "self":
             return Here(self.endpoint.incarnation) if self.endpoint else None
         return self.last if word == "last" else self.kept.get(word)
 
-    def turn(self, journal):
-        """Makes the step of the next command, or the end behind the last one."""
-        if self.has_ended:
-            return
-        journal.want_room()
+    def step(self):
+        """The step of the next command, or the end behind the last one."""
         self.keep_silently()
-        if self.place == len(self.commands):
-            self.end()
-            head = ["ended"]
-        else:
-            head = self.do(self.commands[self.place])
-        if not head:
-            return
-        journal.step(self.maker, *head)
-        if head[0] == "settle":
-            self.run.link(head[1]).settle(journal, self.maker)
+        return self.end() if self.place == len(self.commands) else self.do(self.commands[self.place])
 
     def keep_silently(self):
         """Does each `keep` that comes next, where an item was taken: it makes no step."""
@@ -57,12 +115,6 @@ class Actor:
                 return
             self.kept[words[1]] = self.last
             self.place += 1
-
-    def end(self):
-        """Closes the endpoint, and has ended."""
-        if self.has_endpoint():
-            self.node.close(self.endpoint)
-        self.has_ended = True
 
     def do(self, words):
         """Does a command; the head of its step, or None where a waiting makes no step."""
@@ -92,30 +144,13 @@ class Actor:
         return None
 
     def receive(self, selected):
-        """Takes the first selected item, finds none where all else is at rest, or waits."""
-        incarnation, journal = self.endpoint.incarnation, self.node.journal
-        item = self.endpoint.first(selected)
-        if item is None and not self.run.is_at_rest(self):
-            began, self.waits = self.waits is None, selected
-            return ("waits", selected) if began else None
-        self.place, self.waits = self.place + 1, None
-        if item is None:
-            journal.log(incarnation, "none")
-            return "none", selected
-        self.endpoint.queue.remove(item)
-        self.last, self.buffer = item.sender, item.signal
-        journal.log(incarnation, "took", item.sender, item.signal)
-        return "take", selected, "%d.%d" % item.position
-
-    def do_open(self, name):
-        """`open`."""
-        self.endpoint = self.node.open(name)
-        return "open", name
-
-    def do_close(self):
-        """`close`."""
-        self.node.close(self.endpoint)
-        return ("close",)
+        """Takes the first selected item, finds none, or waits."""
+        head = self.look(selected)
+        if self.waits is None:
+            self.place += 1
+        if head and head[0] == "take":
+            self.last, self.buffer = self.item.sender, self.item.signal
+        return head
 
     def do_send(self, to, *words):
         """`send`."""
@@ -126,22 +161,14 @@ class Actor:
         signal, self.buffer = self.buffer, None
         return self.send(self.peer(to), signal)
 
-    def send(self, peer, signal):
-        """Sends a signal."""
-        return "send", peer, signal, self.node.send(self.endpoint, peer, signal)
-
     def do_hunt(self, path, *words):
         """`hunt`."""
-        signal = signal_of(words, FOUND)
-        self.node.hunt(self.endpoint, path, signal)
-        return "hunt", path, signal
+        return self.hunt(path, signal_of(words, FOUND))
 
     def do_attach(self, to, reference, *words):
         """`attach`."""
-        peer, signal = self.peer(to), signal_of(words, ENDED)
         self.attaches[reference] = self.node.journal.position()
-        self.node.attach(self.endpoint, peer, signal)
-        return "attach", peer, signal
+        return self.attach(self.peer(to), signal_of(words, ENDED))
 
     def do_detach(self, reference):
         """`detach`."""

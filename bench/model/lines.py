@@ -6,6 +6,7 @@ MOST_NODES, MOST_LINKS, MOST_ACTORS, MOST_VERDICTS = 16, 32, 64, 10_000
 MOST_COMMANDS, MOST_COMMANDS_OF_ALL, MOST_COPIES = 20_000, 400_000, 20_000
 MOST_LISTED, MOST_DATA = 64, 65_532
 MOST_TURNS = 200_000
+MOST_IN_RELAY_ENDPOINT = 28
 
 NAME = re.compile(rb"[A-Za-z0-9_.-]{1,32}\Z")
 NUMBER = re.compile(rb"[0-9]{1,10}\Z")
@@ -83,7 +84,7 @@ class Script:
         """A line with words."""
         first, rest = words[0], words[1:]
         if self.node is None:
-            want(first in (b"node", b"link", b"plan", b"actor"))
+            want(first in (b"node", b"link", b"plan", b"actor", b"relay"))
             getattr(self, "declare_" + first.decode())(rest)
         elif first == b"end":
             some(rest, 0)
@@ -148,6 +149,21 @@ class Script:
         self.actors.add(new)
         self.node, self.commands = node, 0
 
+    def declare_relay(self, words):
+        """`relay NAME NODE EP PATH`."""
+        new, node, endpoint = map(name, some(words, 4)[:3])
+        want(len(endpoint) <= MOST_IN_RELAY_ENDPOINT)
+        want(node in self.nodes and new not in self.actors and len(self.actors) < MOST_ACTORS)
+        self.path(words[3], node)
+        self.actors.add(new)
+
+    def path(self, word, node):
+        """The name of an endpoint of the node, or one behind a link that has an end there."""
+        link, slash, end = word.rpartition(b"/")
+        name(end)
+        if slash:
+            want(node in self.links.get(name(link), ()))
+
     # Commands.
 
     def command(self, first, words):
@@ -182,12 +198,9 @@ class Script:
 
     def do_hunt(self, words):
         """`hunt PATH`, a number and data."""
-        link, slash, end = some(words, 1, 3)[0].rpartition(b"/")
-        rest = words[2:] if len(words) > 1 and is_number(words[1]) else words[1:]
-        data(rest)
-        name(end)
-        if slash:
-            want(self.node in self.links.get(name(link), ()))
+        path, *rest = some(words, 1, 3)
+        data(rest[1:] if rest and is_number(rest[0]) else rest)
+        self.path(path, self.node)
 
     def do_attach(self, words):
         """`attach TO REF`, a number and data."""

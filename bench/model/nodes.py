@@ -10,12 +10,13 @@ REASONS = ("closed", "lost", "dead")
 
 
 class Item(NamedTuple):
-    """A signal in a queue: where it was put, who it is from, and the attach that it answers."""
+    """A signal in a queue: where it was put, who it is from, and the attach or hunt that it answers."""
 
     signal: Signal
     sender: Any
     position: tuple
     attach: Any = None
+    is_found: bool = False
 
 
 @dataclass(eq=False)
@@ -241,9 +242,9 @@ class Node:
 
     # What comes to an endpoint.
 
-    def put(self, endpoint, signal, sender, attach=None):
+    def put(self, endpoint, signal, sender, attach=None, is_found=False):
         """Puts an item behind a queue, at the place of the effect that comes next."""
-        item = Item(signal, sender, self.journal.next_effect(), attach)
+        item = Item(signal, sender, self.journal.next_effect(), attach, is_found)
         endpoint.queue.append(item)
 
     def arrive(self, incarnation, sender, signal):
@@ -255,7 +256,7 @@ class Node:
     def found(self, hunt, peer):
         """A hunt found a peer."""
         incarnation = hunt.asker.incarnation
-        self.put(hunt.asker, hunt.signal, peer)
+        self.put(hunt.asker, hunt.signal, peer, is_found=True)
         self.journal.effect("found", incarnation, peer, hunt.signal, f"@{hunt.step}")
         self.journal.log(incarnation, "found", peer, hunt.signal)
 

@@ -4,6 +4,8 @@ from actors import Actor
 from journal import Journal
 from links import Link
 from nodes import Node
+from relays import Relay
+from script import RelayLine
 from values import Refused
 
 
@@ -20,7 +22,8 @@ class Run:
             self.links.append(Link(number, line, [self.node(name) for name in line.nodes]))
         self.actors = []
         for number, block in enumerate(script.actors, 1):
-            self.actors.append(Actor(number, block, self.node(block.node), self))
+            kind = Relay if isinstance(block, RelayLine) else Actor
+            self.actors.append(kind(number, block, self.node(block.node), self))
 
     def node(self, name):
         """The node of a name."""
@@ -29,6 +32,11 @@ class Run:
     def link(self, name):
         """The link of a name."""
         return next(link for link in self.links if link.name == name)
+
+    def hops(self):
+        """A line for each relay: its client, its far end, and how many signals it passed on."""
+        relays = (actor for actor in self.actors if isinstance(actor, Relay))
+        return "".join(relay.hops() + "\n" for relay in relays)
 
     def is_at_rest(self, actor):
         """Whether all else is: any other actor ended, or waits in vain and has a greater number."""

@@ -28,6 +28,16 @@ class ActorBlock:
 
 
 @dataclass
+class RelayLine:
+    """A declared relay: the name of its endpoint, and the path of its far end."""
+
+    name: str
+    node: str
+    endpoint: str
+    path: str
+
+
+@dataclass
 class Script:
     """A whole script; its front has the makers whose turns come first, as `A1` or `P1`."""
 
@@ -47,6 +57,8 @@ class Script:
             link.plan["><".index(words[2])].extend(words[3:])
         elif words[0] == "actor":
             self.actors.append(ActorBlock(words[1], words[2]))
+        elif words[0] == "relay":
+            self.actors.append(RelayLine(*words[1:]))
         else:
             raise Refused(f"no declaration: {words[0]}")
 

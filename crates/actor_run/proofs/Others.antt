@@ -6,8 +6,8 @@ use Rattle.linx_base.specs.declared.identity.Inc.{Inc}
 use Rattle.journal.specs.declared.effect.Step.{Step}
 use Rattle.journal.specs.History.{is_by, has_ended, last_endpoint}
 use Rattle.journal.specs.Rest.{waits_with}
-use Rattle.script_words.specs.declared.command.Command.{Command}
-use Rattle.actor_run.specs.Knowing.{Knows}
+use Rattle.script_lang.specs.declared.actor_script.ActorScript.{ActorScript}
+use Rattle.actor_run.specs.declared.mind.Mind.{Mind}
 use Rattle.actor_run.specs.Following.{is_own, knows, last_waits, Follows, FollowsWhole, Playing}
 
 -- actor k made none of these steps
@@ -42,46 +42,46 @@ waits_with_since k [] P none = refl
 waits_with_since k (s ∷ since) P none =
     rw (first_other k s since none) (waits_with_since k since P (rest_others k s since none))
 
-knows_since : (commands : List Command) (k : ℕ) (since P : List Step) → NoneBy k since
-    → knows commands k (since ++ P) ≡ knows commands k P
-knows_since commands k [] P none = refl
-knows_since commands k (s ∷ since) P none =
-    rw (first_other k s since none) (knows_since commands k since P (rest_others k s since none))
+knows_since : (part : ActorScript) (k : ℕ) (since P : List Step) → NoneBy k since
+    → knows part k (since ++ P) ≡ knows part k P
+knows_since part k [] P none = refl
+knows_since part k (s ∷ since) P none =
+    rw (first_other k s since none) (knows_since part k since P (rest_others k s since none))
 
-follows_since : (commands : List Command) (k : ℕ) (since P : List Step) → NoneBy k since
-    → Follows commands k P → Follows commands k (since ++ P)
-follows_since commands k [] P none follows = follows
-follows_since commands k (s ∷ since) P none follows = (
-  follows_since commands k since P (rest_others k s since none) follows,
+follows_since : (part : ActorScript) (k : ℕ) (since P : List Step) → NoneBy k since
+    → Follows part k P → Follows part k (since ++ P)
+follows_since part k [] P none follows = follows
+follows_since part k (s ∷ since) P none follows = (
+  follows_since part k since P (rest_others k s since none) follows,
   λ own. let off : is_own s k ≡ false = rw (first_other k s since none) refl in cc,
 )
 
-pub follows_goes_on : (commands : List Command) (k : ℕ) (now before : List Step)
-    → GoesOn k now before → Follows commands k before → Follows commands k now
-follows_goes_on commands k now before on follows =
-    subst (Follows commands k) (sym on.1) (follows_since commands k on.0 before on.2 follows)
+pub follows_goes_on : (part : ActorScript) (k : ℕ) (now before : List Step)
+    → GoesOn k now before → Follows part k before → Follows part k now
+follows_goes_on part k now before on follows =
+    subst (Follows part k) (sym on.1) (follows_since part k on.0 before on.2 follows)
 
 pub has_ended_goes_on : (k : ℕ) (now before : List Step)
     → GoesOn k now before → has_ended now k ≡ has_ended before k
 has_ended_goes_on k now before on =
     ap (λ P. has_ended P k) on.1 ∙ has_ended_since k on.0 before on.2
 
--- an actor that has ended has followed its commands to their end
-pub whole_goes_on : (commands : List Command) (k : ℕ) (now before : List Step)
-    → GoesOn k now before → FollowsWhole commands k before → FollowsWhole commands k now
-whole_goes_on commands k now before on whole = (
-  follows_goes_on commands k now before on whole.0,
+-- an actor that has ended has followed its part to its end
+pub whole_goes_on : (part : ActorScript) (k : ℕ) (now before : List Step)
+    → GoesOn k now before → FollowsWhole part k before → FollowsWhole part k now
+whole_goes_on part k now before on whole = (
+  follows_goes_on part k now before on whole.0,
   has_ended_goes_on k now before on ∙ whole.1,
 )
 
 -- BETWEEN TWO TURNS others' steps change nothing
-pub playing_goes_on : (commands : List Command) (k : ℕ) (now before : List Step) (mind : Knows)
-    (me : Option Inc) → GoesOn k now before → Playing commands k before mind me
-    → Playing commands k now mind me
-playing_goes_on commands k now before mind me on playing = record {
-  follows = follows_goes_on commands k now before on playing.follows;
+pub playing_goes_on : (part : ActorScript) (k : ℕ) (now before : List Step) (mind : Mind)
+    (me : Option Inc) → GoesOn k now before → Playing part k before mind me
+    → Playing part k now mind me
+playing_goes_on part k now before mind me on playing = record {
+  follows = follows_goes_on part k now before on playing.follows;
   known = playing.known
-      ∙ sym (ap (knows commands k) on.1 ∙ knows_since commands k on.0 before on.2);
+      ∙ sym (ap (knows part k) on.1 ∙ knows_since part k on.0 before on.2);
   mine = playing.mine
       ∙ sym (ap (λ P. last_endpoint P k) on.1 ∙ last_endpoint_since k on.0 before on.2);
   waits = playing.waits

@@ -1,5 +1,6 @@
 -- The actors of a script can be run.
 use Rattle.std.proofs.Common.{◌≡◌, ℕ, zero, suc, ◌≤◌, Bool, true, false, ◌&&◌, List, [], ◌∷◌, Some}
+use Rattle.std.proofs.Common.{Option, None}
 use Rattle.std.proofs.Common.{refl, sym, arith, slice_get, nat_le, length}
 use Rattle.std.specs.List.{list_all}
 use Rattle.std.proofs.lemmas.Bool.Decides.{nat_tests}
@@ -8,11 +9,15 @@ use Rattle.script_words.specs.declared.command.Command.{Command}
 use Rattle.script_words.specs.declared.command.Command.TheVariants.{Send}
 use Rattle.script_words.specs.declared.command.Command.TheVariants.{Hunt, Attach}
 use Rattle.script_words.specs.declared.filling.Filling.{Filling}
+use Rattle.script_words.specs.declared.relay_decl.RelayDecl.{RelayDecl}
+use Rattle.script_words.specs.Declaration.{leaves_room_for_hop}
 use Rattle.script_words.specs.Filling.{fits_data}
 use Rattle.script_lang.specs.declared.actor_script.ActorScript.{ActorScript}
-use Rattle.script_lang.specs.Fits.{is_node, fits_path, fits_command, fits_actor, IsScript}
+use Rattle.script_lang.specs.Fits.{is_node, fits_path, fits_command, fits_actor, fits_kind}
+use Rattle.script_lang.specs.Fits.{IsScript}
 use Rattle.script_lang.specs.Parts.{ScriptParts}
-use Rattle.actor_run.specs.Asking.{fits_signal, AreRunnable}
+use Rattle.actor_run.specs.Asking.{fits_signal}
+use Rattle.actor_run.specs.Minds.{IsRunnable, has_room_for_hop}
 
 and_left : (a b : Bool) → (a && b) ≡ true → a ≡ true
 and_left true b h = refl
@@ -49,22 +54,32 @@ signals_fit s node (c ∷ rest) h (suc place) =
 pub within : (n most : ℕ) → nat_le n most ≡ true → n ≤ most
 within n most h = grind (arith, nat_tests)
 
+hop_fits : (s : ScriptParts) (node : NodeNo) (relay : Option RelayDecl)
+    → fits_kind s node relay ≡ true → has_room_for_hop relay ≡ true
+hop_fits s node None h = refl
+hop_fits s node (Some decl) h =
+    and_left (leaves_room_for_hop decl.endpoint) (fits_path s node decl.path) h
+
 pub runnable : (s : ScriptParts) (actor : ActorScript)
-    → fits_actor s actor ≡ true → AreRunnable actor.commands
+    → fits_actor s actor ≡ true → IsRunnable actor
 runnable s actor h =
-    let on = is_node s actor.node in
     let sized = nat_le (length actor.commands) 20000 in
     let each = list_all (fits_command s actor.node) actor.commands in
+    let kind = fits_kind s actor.node actor.relay in
+    let placed = and_right (is_node s actor.node) (sized && (each && kind)) h in
+    let fit = and_right sized (each && kind) placed in
     record {
-      few = within (length actor.commands) 20000
-          (and_right on sized (and_left (on && sized) each h));
-      fits = signals_fit s actor.node actor.commands (and_right (on && sized) each h);
+      commands = record {
+        few = within (length actor.commands) 20000 (and_left sized (each && kind) placed);
+        fits = signals_fit s actor.node actor.commands (and_left each kind fit);
+      };
+      hop = hop_fits s actor.node actor.relay (and_right each kind fit);
     }
 
 -- each actor of a script can be run
 actors_runnable : (s : ScriptParts) (actors : List ActorScript) (place : ℕ) (actor : ActorScript)
     → list_all (fits_actor s) actors ≡ true → slice_get actors place ≡ Some actor
-    → AreRunnable actor.commands
+    → IsRunnable actor
 actors_runnable s [] zero actor h is = cc
 actors_runnable s [] (suc place) actor h is = cc
 actors_runnable s (first ∷ rest) zero actor h is =
@@ -79,6 +94,6 @@ actors_runnable s (first ∷ rest) (suc place) actor h is =
     (and_right (fits_actor s first) (list_all (fits_actor s) rest) h) is
 
 pub script_runnable : (s : ScriptParts) (place : ℕ) (actor : ActorScript)
-    → IsScript s → slice_get s.actors place ≡ Some actor → AreRunnable actor.commands
+    → IsScript s → slice_get s.actors place ≡ Some actor → IsRunnable actor
 script_runnable s place actor script is =
     actors_runnable s s.actors place actor script.each_actor is

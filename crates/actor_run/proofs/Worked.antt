@@ -39,6 +39,9 @@ use Rattle.actor_run.specs.Bindings.{lookup}
 use Rattle.actor_run.specs.Knowing.{Knows, knows_nothing, told, stopped_with}
 use Rattle.actor_run.specs.Asking.{asked_by, handed, bare, with_hand}
 use Rattle.actor_run.specs.Following.{Follows, FollowsWhole, IsAskedStep, knows, next_ask}
+use Rattle.actor_run.specs.Minds.{is_waiting}
+use Rattle.script_lang.specs.declared.actor_script.ActorScript.{ActorScript}
+use Rattle.script_lang.specs.Parts.{acting, relaying}
 
 -- the actor's endpoint, and a server behind a link
 abbrev one : Inc
@@ -203,6 +206,13 @@ commands =
     Open (codes "a") ∷ Send Me 5 no_data ∷ Recv Any ∷ Keep v ∷ Forward (Kept v) ∷ Forward (Kept v)
     ∷ Close ∷ Detach r ∷ []
 
+-- a part of a script that has these commands
+abbrev commanded : List Command → ActorScript
+commanded all = acting (record { 0 = 1 }) all
+
+abbrev part : ActorScript
+part = commanded commands
+
 abbrev made : Head → List Effect → Step
 made head effects = record { by = Actor 1; head = head; effects = effects }
 
@@ -231,37 +241,37 @@ abbrev before_the_end : List Step
 before_the_end = unnamed ∷ closed ∷ unheld ∷ sends ∷ takes ∷ sends ∷ opened ∷ []
 
 abbrev is_asked : (P : List Step) (s : Step) → has_ended P 1 ≡ false
-    → named s.head ≡ granted P 1 (next_ask commands 1 P)
-    → (is_waits s.head ≡ true → (knows commands 1 P).waiting ≡ false)
-    → IsAskedStep commands 1 P s
+    → named s.head ≡ granted P 1 (next_ask part 1 P)
+    → (is_waits s.head ≡ true → is_waiting (knows part 1 P) ≡ false)
+    → IsAskedStep part 1 P s
 is_asked P s running names once = record { running = running; names = names; once = once }
 
-follows_two : Follows commands 1 (sends ∷ opened ∷ [])
+follows_two : Follows part 1 (sends ∷ opened ∷ [])
 follows_two = (
   (tt, λ _. is_asked [] opened refl refl (λ w. cc)),
   λ _. is_asked (opened ∷ []) sends refl refl (λ w. cc),
 )
 
-follows_four : Follows commands 1 (sends ∷ takes ∷ sends ∷ opened ∷ [])
+follows_four : Follows part 1 (sends ∷ takes ∷ sends ∷ opened ∷ [])
 follows_four = (
   (follows_two, λ _. is_asked (sends ∷ opened ∷ []) takes refl refl (λ w. cc)),
   λ _. is_asked (takes ∷ sends ∷ opened ∷ []) sends refl refl (λ w. cc),
 )
 
-follows_six : Follows commands 1 (closed ∷ unheld ∷ sends ∷ takes ∷ sends ∷ opened ∷ [])
+follows_six : Follows part 1 (closed ∷ unheld ∷ sends ∷ takes ∷ sends ∷ opened ∷ [])
 follows_six = (
   (follows_four, λ _. is_asked (sends ∷ takes ∷ sends ∷ opened ∷ []) unheld refl refl (λ w. cc)),
   λ _. is_asked (unheld ∷ sends ∷ takes ∷ sends ∷ opened ∷ []) closed refl refl (λ w. cc),
 )
 
-follows_seven : Follows commands 1 before_the_end
+follows_seven : Follows part 1 before_the_end
 follows_seven = (
   follows_six,
   λ _. is_asked (closed ∷ unheld ∷ sends ∷ takes ∷ sends ∷ opened ∷ []) unnamed refl refl
       (λ w. cc),
 )
 
-whole_run : FollowsWhole commands 1 (ended ∷ before_the_end)
+whole_run : FollowsWhole part 1 (ended ∷ before_the_end)
 whole_run =
     ((follows_seven, λ _. is_asked before_the_end ended refl refl (λ w. cc)), refl)
 
@@ -273,7 +283,7 @@ open_already : granted (opened ∷ []) 1 (bare (asks.Open (codes "b"))) ≡ refu
 open_already = refl
 
 -- RUNS THAT DON'T FOLLOW. A command is left out
-command_left_out : Follows commands 1 (takes ∷ opened ∷ []) → ⊥
+command_left_out : Follows part 1 (takes ∷ opened ∷ []) → ⊥
 command_left_out f =
     let names = (f.1 refl).names in
     let wrong : true ≡ false = ap (λ (a : Ask). is_look_event a.event) names in cc
@@ -283,7 +293,7 @@ command_left_out f =
     is_look_event _ = false
 
 -- another signal is sent
-another_signal : Follows commands 1
+another_signal : Follows part 1
     (made (heads.Send (Here one) (record { number = 6; bytes = [] }) Queued) [] ∷ opened ∷ []) → ⊥
 another_signal f =
     let hands : Some (record { number = 6; bytes = [] }) ≡ Some five =
@@ -295,24 +305,53 @@ another_signal f =
     number_of (Some signal) = signal.number
 
 -- a forward goes on with the buffer after it was sent
-forwarded_again : Follows commands 1 (sends ∷ sends ∷ takes ∷ sends ∷ opened ∷ []) → ⊥
+forwarded_again : Follows part 1 (sends ∷ sends ∷ takes ∷ sends ∷ opened ∷ []) → ⊥
 forwarded_again f =
     let hands : Some five ≡ None = ap (λ (a : Ask). a.hand) (f.1 refl).names in cc
 
 -- the end comes before the last command
-ends_early : Follows commands 1 (ended ∷ opened ∷ []) → ⊥
+ends_early : Follows part 1 (ended ∷ opened ∷ []) → ⊥
 ends_early f =
     let wrong : true ≡ false = ap (λ (a : Ask). is_end_event a.event) (f.1 refl).names in cc
 
 -- a step is made after the end
-ends_twice : Follows [] 1 (ended ∷ ended ∷ []) → ⊥
+ends_twice : Follows (commanded []) 1 (ended ∷ ended ∷ []) → ⊥
 ends_twice f = let wrong : true ≡ false = (f.1 refl).running in cc
 
 -- a receive says twice that it waits
-waits_twice : Follows (Open (codes "a") ∷ Recv Any ∷ []) 1
+waits_twice : Follows (commanded (Open (codes "a") ∷ Recv Any ∷ [])) 1
     (made (heads.Waits Any) [] ∷ made (heads.Waits Any) [] ∷ opened ∷ []) → ⊥
 waits_twice f = let wrong : true ≡ false = (f.1 refl).once refl in cc
 
 -- it isn't whole before the end
-not_whole : FollowsWhole commands 1 (opened ∷ []) → ⊥
+not_whole : FollowsWhole part 1 (opened ∷ []) → ⊥
 not_whole f = let wrong : false ≡ true = f.1 in cc
+
+-- A RELAY opens its hop first, and hunts there
+abbrev answer : SigNote
+answer = record { number = 251; bytes = [] }
+
+abbrev relay : ActorScript
+relay = relaying (record { 0 = 1 }) (record {
+  endpoint = codes "p";
+  path = Over link (codes "b");
+})
+
+hop_first : next_ask relay 1 [] ≡ bare (asks.Open (codes "p.hop"))
+hop_first = refl
+
+abbrev hop_opened : Step
+hop_opened = made (heads.Open (codes "p.hop")) (Opened one ∷ [])
+
+hunt_then : next_ask relay 1 (hop_opened ∷ [])
+    ≡ with_hand (asks.Hunt (Over link (codes "b"))) answer
+hunt_then = refl
+
+relay_follows : Follows relay 1 (hop_opened ∷ [])
+relay_follows = (tt, λ _. record { running = refl; names = refl; once = λ w. cc })
+
+-- and no relay closes its hop before it hunted
+closes_early : Follows relay 1 (closed ∷ hop_opened ∷ []) → ⊥
+closes_early f =
+    let hands : None ≡ Some answer =
+    ap (λ (a : Ask). a.hand) (f.1 refl).names in cc

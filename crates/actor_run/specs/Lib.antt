@@ -1,4 +1,5 @@
 pub mod Bindings
 pub mod Knowing
 pub mod Asking
+pub mod Minds
 pub mod Following

@@ -1,22 +1,15 @@
 //! What an actor knows: what it asks for next, and what it learns from an answer.
-ghost use Rattle.std.specs.Prelude.{◌≡◌, ◌≤◌, IfOk, OnOk, OnErr, None, Some, true, false, length};
-ghost use Rattle.std.specs.Prelude.{if◌then◌else◌};
-ghost use Rattle.std.specs.Option.{option_copied};
-ghost use Rattle.actor_run.specs.Asking.{ask_of, peer_named, ask_forward, asked_by, handed};
-ghost use Rattle.actor_run.specs.Asking.{is_forward, is_sending, fits_signal, AreRunnable};
-ghost use Rattle.actor_run.specs.Knowing.{knows_nothing, told, stopped_with, learned, passed};
+ghost use Rattle.std.specs.Prelude.{◌≡◌, IfOk, OnOk, OnErr};
 ghost use Rattle.actor_run.specs.Following.{endpoint_after};
+ghost use Rattle.actor_run.specs.Minds.{IsRunnable, IsWithin, asked_by, handed, knows_nothing};
+ghost use Rattle.actor_run.specs.Minds.{stopped_with, told};
 
-use crate::asks::{ask_attach, ask_detach, ask_hunt, ask_send, empty_handed, holding, refuse};
-use crate::bindings::Bindings;
-use crate::filled::Filled;
-use crate::names::{NameKind, keep_at};
-use journal::{Event, Refusal};
-use linx_base::{AttRef, Inc, NoMemory, Peer, Signal, TryCopy};
+use crate::commanding::Commanding;
+use linx_base::{Inc, NoMemory, Signal};
 use node_kernel::{Ask, StepAnswer};
-use script_lang::{ActorScript, Command, Target};
+use relay_steps::Relay;
+use script_lang::ActorScript;
 use std::alloc::Global;
-use std::marker::Model;
 
 /// The endpoint that an actor opened last, after an answer.
 pub fn endpoint_after(me: Option<Inc>, answer: &StepAnswer) -> Option<Inc>
@@ -28,154 +21,44 @@ pub fn endpoint_after(me: Option<Inc>, answer: &StepAnswer) -> Option<Inc>
     }
 }
 
-/// What an actor knows of its own steps, and its place in its script.
+/// What an actor knows of its own steps: among its commands, or as a relay.
 #[derive(Drop)]
-pub struct Mind {
-    place: usize,
-    waiting: bool,
-    last: Option<Peer>,
-    held: Option<Signal>,
-    lent: bool,
-    kept: Bindings<Peer>,
-    refs: Bindings<AttRef>,
-    // No contract sees it: an equal buffer is shared.
-    filled: Option<Filled>,
-}
-
-impl Model for Mind {
-    ghost use Rattle.actor_run.specs.Knowing.{Knows};
-
-    ghost Value = { Knows };
-
-    ghost view = { λ m. record {
-      place = m.place;
-      waiting = m.waiting;
-      last = m.last;
-      held = m.held;
-      lent = m.lent;
-      kept = m.kept;
-      refs = m.refs;
-    } };
+pub enum Mind {
+    OfCommands(Commanding),
+    OfRelay(Relay),
 }
 
 impl Mind {
     /// Before the first step. It makes the room for every name of the script.
     pub fn new(alloc: Global, script: &ActorScript) -> Result<Mind, NoMemory>
-        ensures { IfOk result (λ mind. mind ≡ knows_nothing script.now.commands) }
+        ensures { IfOk result (λ mind. mind ≡ knows_nothing script.now) }
     {
-        let commands = script.commands.as_slice();
-        let kept = Bindings::of(alloc, NameKind::OfPeers, commands)?;
-        let refs = Bindings::of(alloc, NameKind::OfReferences, commands)?;
-        Ok(Mind {
-            place: 0,
-            waiting: false,
-            last: None,
-            held: None,
-            lent: false,
-            kept,
-            refs,
-            filled: None,
-        })
-    }
-
-    /// The peer that a target names.
-    fn peer_of(&self, to: &Target, me: Option<Inc>) -> Option<Peer>
-        ensures { result ≡ peer_named self.now me to.now }
-    {
-        match to {
-            Target::Me => match me {
-                Some(inc) => Some(Peer::Here(inc)),
-                None => None,
-            },
-            Target::Last => self.last,
-            Target::Kept(name) => self.kept.get(name),
+        match &script.relay {
+            Some(_) => Ok(Mind::OfRelay(Relay::new())),
+            None => Ok(Mind::OfCommands(Commanding::new(alloc, script)?)),
         }
     }
 
-    /// A forward hands over the buffer that is held.
-    fn forward(&mut self, to: &Target, me: Option<Inc>) -> Ask
-        ensures ask { result ≡ ask_forward self.old.held (peer_named self.old me to.now) }
-        ensures left { self.new ≡ (if is_sending result.event
-            then record self.old { held = None; lent = true } else self.old) }
-    {
-        let peer = self.peer_of(to, me);
-        let Some(signal) = self.held.take() else {
-            return refuse(Refusal::NoSignal);
-        };
-        match peer {
-            Some(peer) => {
-                self.lent = true;
-                holding(Event::Send(peer), signal)
-            }
-            None => {
-                self.held = Some(signal);
-                refuse(Refusal::NoPeer)
-            }
-        }
-    }
-
-    /// What a command that is no forward asks for.
-    fn ask_of(
-        &self,
-        alloc: Global,
-        last: &mut Option<Filled>,
-        command: &Command,
-        me: Option<Inc>,
-    ) -> Result<Ask, NoMemory>
-        requires other { is_forward (Some command.now) ≡ false }
-        requires fits { fits_signal (Some command.now) ≡ true }
-        ensures { IfOk result (λ ask. ask ≡ ask_of self.now me (Some command.now)) }
-    {
-        match command {
-            Command::Open(name) => Ok(empty_handed(Event::Open(name.copy()?))),
-            Command::Close => Ok(empty_handed(Event::Close)),
-            Command::Send { to, number, bytes } => {
-                ask_send(alloc, last, self.peer_of(to, me), *number, bytes)
-            }
-            Command::Forward(_) => unreachable!(),
-            Command::Recv(filter) => Ok(empty_handed(Event::Look(filter.copy()?))),
-            Command::Hunt {
-                path,
-                number,
-                bytes,
-            } => ask_hunt(alloc, last, path, *number, bytes),
-            Command::Attach {
-                to,
-                number,
-                bytes,
-                ..
-            } => { ask_attach(alloc, last, self.peer_of(to, me), *number, bytes) }
-            Command::Detach(r) => Ok(ask_detach(self.refs.get(r))),
-            Command::Keep(_) => Ok(refuse(Refusal::NoPeer)),
-            Command::Cut(link) => Ok(empty_handed(Event::Cut(*link))),
-            Command::Mend(link) => Ok(empty_handed(Event::Mend(*link))),
-            Command::Restart(node) => Ok(empty_handed(Event::Restart(*node))),
-            Command::Settle(link) => Ok(empty_handed(Event::Settle(*link))),
-        }
-    }
-
-    /// What the actor asks for next, where `me` is the endpoint that it opened last, open or not. A
-    /// forward hands the buffer over. A refusal of memory changes nothing.
+    /// What the actor asks for next, where `me` is the endpoint that it opened last, open or not. What
+    /// it sends on is handed over. A refusal of memory changes nothing.
     pub fn next(
         &mut self,
         alloc: Global,
         script: &ActorScript,
         me: Option<Inc>,
     ) -> Result<Ask, NoMemory>
-        requires { AreRunnable script.now.commands }
-        ensures ask { IfOk result (λ ask. ask ≡ asked_by script.now.commands self.old me) }
-        ensures ok { OnOk result (self.new ≡ handed script.now.commands self.old me) }
+        requires runnable { IsRunnable script.now }
+        requires within { IsWithin script.now self.old }
+        ensures ask { IfOk result (λ ask. ask ≡ asked_by script.now self.old me) }
+        ensures ok { OnOk result (self.new ≡ handed script.now self.old me) }
         ensures err { OnErr result (self.new ≡ self.old) }
     {
-        match script.commands.get(self.place) {
-            None => Ok(empty_handed(Event::End)),
-            Some(Command::Forward(to)) => Ok(self.forward(to, me)),
-            Some(command) => {
-                let mut filled = self.filled.take();
-                let asked = self.ask_of(alloc, &mut filled, command, me);
-                self.filled = filled;
-                asked
-            }
+        match self {
+            Mind::OfCommands(commanding) => commanding.next(alloc, script, me),
+            Mind::OfRelay(relay) => match &script.relay {
+                Some(decl) => relay.next(alloc, decl),
+                None => unreachable!(),
+            },
         }
     }
 
@@ -183,59 +66,22 @@ impl Mind {
     pub fn stopped(&mut self, hand: Option<Signal>)
         ensures { self.new ≡ stopped_with self.old hand }
     {
-        if self.lent {
-            self.held = hand;
-            self.lent = false;
+        match self {
+            Mind::OfCommands(commanding) => commanding.stopped(hand),
+            Mind::OfRelay(relay) => relay.stopped(hand),
         }
     }
 
-    /// Learns what the answer to a command tells.
-    fn learn(&mut self, command: Option<&Command>, answer: StepAnswer)
-        ensures { self.new ≡ learned (option_copied command.entry) answer self.old }
-    {
-        match answer {
-            StepAnswer::Took(item) => {
-                self.last = Some(item.from);
-                self.held = Some(item.signal);
-            }
-            StepAnswer::Attached(reference) => {
-                if let Some(Command::Attach { r, .. }) = command {
-                    self.refs.put(r, reference);
-                }
-            }
-            _ => {}
-        }
-    }
-
-    /// Goes past the keeps that come next, which make no step where an item was taken.
-    fn pass_keeps(&mut self, script: &ActorScript)
-        requires { AreRunnable script.now.commands }
-        ensures { self.new ≡ passed script.now.commands self.old }
-    {
-        let Some(peer) = self.last else {
-            return;
-        };
-        while let Some(name) = keep_at(script, self.place) {
-            self.kept.put(name, peer);
-            self.place += 1;
-        }
-    }
-
-    /// Learns the answer to what was asked for, and goes on to the next command that makes a step.
-    /// After `NotYet` the place stays. It takes no memory.
+    /// Learns the answer to what was asked for, and goes on to what makes the next step. After
+    /// `NotYet` it asks for the same again. It takes no memory.
     pub fn told(&mut self, script: &ActorScript, answer: StepAnswer)
-        requires runnable { AreRunnable script.now.commands }
-        requires place { self.old.place ≤ length script.now.commands }
-        ensures { self.new ≡ told script.now.commands self.old answer }
+        requires runnable { IsRunnable script.now }
+        requires within { IsWithin script.now self.old }
+        ensures { self.new ≡ told script.now self.old answer }
     {
-        if let StepAnswer::NotYet = &answer {
-            self.waiting = true;
-            return;
+        match self {
+            Mind::OfCommands(commanding) => commanding.told(script, answer),
+            Mind::OfRelay(relay) => relay.told(answer),
         }
-        self.learn(script.commands.get(self.place), answer);
-        self.place += 1;
-        self.waiting = false;
-        self.lent = false;
-        self.pass_keeps(script);
     }
 }

@@ -15,7 +15,7 @@ use Rattle.fabric.specs.Machine.{head_for}
 use Rattle.fabric.specs.Run.{IsStepFor, Layout}
 use Rattle.stage.specs.Settlings.{AreSettlings}
 use Rattle.stage.specs.Turns.{IsPump, IsTurn, IsTurnBy, IsTurnOf, acts_next, asked_next}
-use Rattle.stage.specs.Turns.{asks_nothing, commands_of, ended_before, makes_event}
+use Rattle.stage.specs.Turns.{asks_nothing, part_of, ended_before, makes_event}
 use Rattle.stage.specs.declared.stage.Pump as pumps
 use Rattle.stage.specs.declared.stage.Turn.{Turn}
 use Rattle.stage.proofs.Actors.Going.{SettlesOn, done-far, settle-made}
@@ -85,7 +85,7 @@ module _ (script : ScriptParts) where
         (λ head is.
         ap not
         (head-unpumped old.shape old.log.steps
-        (no_link_stirs old.shape old.log.steps (trunks_of old.trunks)) k (commands_of script k) head
+        (no_link_stirs old.shape old.log.steps (trunks_of old.trunks)) k (part_of script k) head
         is))
         stepped same
     rest-told between answer stepped (inr on) =

@@ -35,7 +35,7 @@ use Rattle.stage.specs.Plays.{AllFollow, IsInTurn, IsPlannedHead, IsScriptRun, I
 use Rattle.stage.specs.Pumps.{event_with, flying_side, next_ticking, pump_event, ticked_by}
 use Rattle.stage.specs.Pumps.{verdict_for}
 use Rattle.stage.specs.Settlings.{Settler, settler_now, settler_of}
-use Rattle.stage.specs.Turns.{commands_of, shape_of}
+use Rattle.stage.specs.Turns.{part_of, shape_of}
 use Rattle.run_orders.specs.Laws.{makers_of}
 use Rattle.stage.proofs.Plans.SameTrunks.{pump_alike, settled_there, settler_alike, still_alike}
 use Rattle.stage.proofs.Plans.OneState.{IsRunOf, one_state, script_run}
@@ -78,7 +78,7 @@ record IsNext (script : ScriptParts) (P : List Step) (trunks : RunTrunks) (by : 
   in_turn : IsInTurn script P trunks (settler_now (shape_of script) P trunks) by head
   asked :
       (k : ℕ) → 0 < k → k ≤ length script.actors → (is_by by k && not (is_pumped head)) ≡ true
-      → named head ≡ granted P k (next_ask (commands_of script k) k P)
+      → named head ≡ granted P k (next_ask (part_of script k) k P)
 
 -- a step of a pump is the one that the pump's rule asks for of its link
 planned_at : (script : ScriptParts) (P : List Step) (trunks : RunTrunks) (l : LinkNo) (head : Head)

@@ -24,7 +24,7 @@ use Rattle.stage.specs.Settlings.{GoesOnAfter, IsDone, IsHalfDone, IsSettled, St
 use Rattle.stage.specs.Settlings.{leaves_cut, settled_by, settles_none, settles_whole}
 use Rattle.stage.specs.Turns.{IsActed, IsPump, IsStoppedBy, IsStoppedOf, IsTurn, IsTurnBy}
 use Rattle.stage.specs.Turns.{IsTurnOf, IsTurnStopped, acts_next, asked_next, asks_nothing}
-use Rattle.stage.specs.Turns.{commands_of, ended_before, makers, makes_event, shape_of}
+use Rattle.stage.specs.Turns.{part_of, ended_before, makers, makes_event, shape_of}
 use Rattle.stage.proofs.Actors.Going.{GoesFar, SettlesOn, done-far, goes-nowhere, goes-settling}
 use Rattle.stage.proofs.Actors.Going.{half-far, settle-made, settles_it}
 use Rattle.stage.proofs.Rounds.Turns.{pump-makes, pump-rests, turn-acts, turn-over}
@@ -218,7 +218,7 @@ module _ (script : ScriptParts) (ends : HasTwoEnds (shape_of script)) where
     -- what an actor asks for next, and whether it has ended
     asked-alike : (k : ℕ) → asked_next script k two ≡ asked_next script k one
     asked-alike k =
-        ap (λ (log : Log). next_ask (commands_of script k) k log.steps) (sym alike.log)
+        ap (λ (log : Log). next_ask (part_of script k) k log.steps) (sym alike.log)
 
     ended-alike : (k : ℕ) → has_ended two.log.steps k ≡ has_ended one.log.steps k
     ended-alike k = ap (λ (log : Log). has_ended log.steps k) (sym alike.log)

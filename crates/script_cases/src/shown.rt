@@ -3,7 +3,7 @@
 
 use case_words::{name_text, text_of};
 use linx_base::{LinkDecl, LinkNo, Name, Path, Side, Verdict};
-use script_lang::{ActorScript, Command, Filling, Script, Target};
+use script_lang::{ActorScript, Command, Filling, RelayDecl, Script, Target};
 use sigsel::Sigsel;
 use std::alloc::Global;
 use std::test::Fail;
@@ -43,6 +43,12 @@ fn shown_path(alloc: Global, path: &Path) -> Result<String, Fail> {
         Path::Local(name) => text_of(alloc, name_text(name)),
         Path::Over { link, name } => Ok(format!(in alloc; "{}/{}", link.0, name_text(name))?),
     }
+}
+
+/// A relay: the name of its endpoint, and its path.
+pub fn shown_relay(alloc: Global, relay: &RelayDecl) -> Result<String, Fail> {
+    let path = shown_path(alloc, &relay.path)?;
+    Ok(format!(in alloc; "{} {path}", name_text(&relay.endpoint))?)
 }
 
 fn shown_hunt(alloc: Global, path: &Path, number: u32, bytes: &Filling) -> Result<String, Fail> {

@@ -1,6 +1,6 @@
 //! Statements and commands in each of their forms, and what they mean.
 
-use crate::shown::{plan_of, shown_commands, shown_link};
+use crate::shown::{plan_of, shown_commands, shown_link, shown_relay};
 use linx_base::{NodeNo, Side, Verdict};
 use script_lang::{Script, parse};
 use std::alloc::Global;
@@ -108,6 +108,18 @@ fn commands_that_mean_the_same_or_not(rt: HostRuntime) -> Result<(), Fail> {
         let right = commands_shown(rt.alloc(), other)?;
         assert_eq!(rt; left.as_str() == right.as_str(), same, "at {one}");
     }
+    Ok(())
+}
+
+#[test]
+fn a_relay_and_its_path(rt: HostRuntime) -> Result<(), Fail> {
+    let script = parse(rt.alloc(), b"node m\nnode n\nlink l m n\nrelay r n p l/s")?;
+    let relay = script.actors().get(0).ok_or("no such actor")?;
+    assert!(rt; relay.node == NodeNo(2) && relay.commands.len() == 0);
+    let Some(decl) = &relay.relay else {
+        return Err(Fail::from("a relay"));
+    };
+    assert!(rt; shown_relay(rt.alloc(), decl)?.as_str() == "p 1/s");
     Ok(())
 }
 

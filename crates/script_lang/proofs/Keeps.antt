@@ -1,7 +1,7 @@
 -- each new entry keeps a script within its limits
 use Rattle.std.proofs.Common.{◌≡◌, ℕ, suc, ◌+◌, ◌-◌, ◌<◌, ◌≤◌, true, false, not, ◌&&◌, zero, List}
 use Rattle.std.proofs.Common.{[], ◌∷◌, ◌++◌, length, refl, ◌∙◌, arith, length-append, slice_get}
-use Rattle.std.proofs.Common.{bytes_eq, leb-true, le-leb}
+use Rattle.std.proofs.Common.{bytes_eq, leb-true, le-leb, nat_le, Option, Some, None}
 use Rattle.std.specs.List.{list_all, list_any}
 use Rattle.std.proofs.lemmas.Bool.{and_parts, and_from, or_parts, not_from_false, not-true}
 use Rattle.std.proofs.lemmas.List.Sums.{sum_by_push}
@@ -15,6 +15,7 @@ use Rattle.linx_base.specs.declared.identity.Side.{Side}
 use Rattle.linx_base.specs.declared.frame.LinkDecl.{LinkDecl}
 use Rattle.linx_base.specs.declared.frame.Verdict.{Verdict}
 use Rattle.script_words.specs.declared.command.Command.{Command}
+use Rattle.script_words.specs.declared.relay_decl.RelayDecl.{RelayDecl}
 use Rattle.script_words.specs.declared.command.Command.TheVariants.{Send}
 use Rattle.script_words.specs.declared.command.Command.TheVariants.{Recv, Hunt, Attach}
 use Rattle.script_words.specs.declared.command.Command.TheVariants.{Cut, Mend, Restart}
@@ -24,11 +25,13 @@ use Rattle.script_lang.specs.Limits.{all_commands_limit, verdict_limit}
 use Rattle.script_words.proofs.Lists.{list_all_push}
 use Rattle.script_lang.specs.declared.actor_script.ActorScript.{ActorScript}
 use Rattle.script_lang.specs.Parts.{ScriptParts, planned_verdicts, with_node, with_link}
-use Rattle.script_lang.specs.Parts.{with_verdict, with_actor, planned_at}
+use Rattle.script_lang.specs.Parts.{acting, planned_at, relaying, with_actor, with_relay}
+use Rattle.script_lang.specs.Parts.{with_verdict}
 use Rattle.script_lang.specs.declared.plans.Plans.{Plans}
 use Rattle.script_lang.specs.Fits.{is_numbered, is_node, joins, has_end, fits_link, fits_plans}
 use Rattle.script_lang.specs.Fits.{fits_path, fits_command, fits_actor, command_count, is_among}
-use Rattle.script_lang.specs.Fits.{are_distinct, IsScript}
+use Rattle.script_lang.specs.Fits.{are_distinct, fits_kind, fits_relay, IsScript}
+use Rattle.script_words.specs.Declaration.{leaves_room_for_hop}
 use Rattle.script_lang.proofs.Lists.{list_all_weaken, list_any_push}
 use Rattle.script_lang.proofs.Verdicts.{length-planned_at, planned_at_fits}
 
@@ -85,14 +88,24 @@ module _ (s t : ScriptParts) (g : Grows s t) where
   command_grows node (Settle link) h = numbered_grows _ _ link.0 g.links h
   command_grows node _ h = refl
 
+  kind_grows : (node : NodeNo) (relay : Option RelayDecl)
+      → fits_kind s node relay ≡ true → fits_kind t node relay ≡ true
+  kind_grows node None h = refl
+  kind_grows node (Some decl) h =
+      let parts = and_parts (leaves_room_for_hop decl.endpoint) _ h in
+      and_from _ _ parts.0 (path_grows node decl.path parts.1)
+
   actor_grows : (actor : ActorScript) → fits_actor s actor ≡ true → fits_actor t actor ≡ true
   actor_grows actor h =
-      let parts = and_parts (is_node s actor.node && _) _ h in
-      let front = and_parts (is_node s actor.node) _ parts.0 in
-      and_from _ _
-      (and_from _ _ (numbered_grows _ _ actor.node.0 g.nodes front.0) front.1)
+      let node = and_parts (is_node s actor.node) _ h in
+      let few = and_parts (nat_le (length actor.commands) command_limit) _ node.1 in
+      let rest = and_parts (list_all (fits_command s actor.node) actor.commands) _ few.1 in
+      and_from _ _ (numbered_grows _ _ actor.node.0 g.nodes node.0)
+      (and_from _ _ few.0
+      (and_from _ _
       (list_all_weaken (fits_command s actor.node) (fits_command t actor.node) actor.commands
-      (command_grows actor.node) parts.1)
+      (command_grows actor.node) rest.0)
+      (kind_grows actor.node actor.relay rest.1)))
 
   actors_grow : (actors : List ActorScript)
       → list_all (fits_actor s) actors ≡ true → list_all (fits_actor t) actors ≡ true
@@ -222,25 +235,39 @@ module _ (s : ScriptParts) (link : LinkNo) (from : Side) (verdict : Verdict) whe
 
 -- ---- an actor
 
-module _ (s : ScriptParts) (node : NodeNo) (commands : List Command) where
-  added : ActorScript
-  added = record { node = node; commands = commands }
+module _ (s : ScriptParts) (a : ActorScript) where
+  peopled : ScriptParts
+  peopled = record s { actors = s.actors ++ a ∷ [] }
 
-  script_grows : Grows s (with_actor s node commands)
-  script_grows = record { nodes = omega arith; links = omega arith; ends = λ l n h. h }
+  peopled_grows : Grows s peopled
+  unfolding peopled
+  peopled_grows = record { nodes = omega arith; links = omega arith; ends = λ l n h. h }
 
-  pub actor_kept : IsScript s → length s.actors < actor_limit → is_node s node ≡ true
-      → length commands ≤ command_limit → list_all (fits_command s node) commands ≡ true
+  one_kept : IsScript s → length s.actors < actor_limit → fits_actor s a ≡ true
+      → command_count s.actors + length a.commands ≤ all_commands_limit → IsScript peopled
+  unfolding peopled with_others
+  one_kept h room fits all =
+      others_kept s s.plans (s.actors ++ a ∷ []) h h.each_plan h.plans
+      (omega (arith, length-append s.actors (a ∷ [])))
+      (list_all_push _ s.actors a (actors_grow s peopled peopled_grows s.actors h.each_actor)
+      (actor_grows s peopled peopled_grows a fits))
+      (omega (arith, sum_by_push (λ (b : ActorScript). length b.commands) s.actors a))
+
+module _ (s : ScriptParts) (node : NodeNo) where
+  pub actor_kept : (commands : List Command) → IsScript s → length s.actors < actor_limit
+      → is_node s node ≡ true → length commands ≤ command_limit
+      → list_all (fits_command s node) commands ≡ true
       → command_count s.actors + length commands ≤ all_commands_limit
       → IsScript (with_actor s node commands)
-  unfolding added with_others
-  actor_kept h room declared few fits all =
-      others_kept s s.plans (s.actors ++ added ∷ []) h h.each_plan h.plans
-      (omega (arith, length-append s.actors (added ∷ [])))
-      (list_all_push _ s.actors added
-      (actors_grow s (with_actor s node commands) script_grows s.actors h.each_actor)
-      (and_from _ _
-      (and_from _ _ declared (le-leb (length commands) command_limit few))
-      (list_all_weaken (fits_command s node) (fits_command (with_actor s node commands) node)
-      commands (command_grows s (with_actor s node commands) script_grows node) fits)))
-      (omega (arith, sum_by_push (λ (a : ActorScript). length a.commands) s.actors added))
+  unfolding peopled
+  actor_kept commands h room declared few fits all =
+      one_kept s (acting node commands) h room
+      (and_from _ _ declared
+      (and_from _ _ (le-leb (length commands) command_limit few) (and_from _ _ fits refl))) all
+
+  pub relay_kept : (decl : RelayDecl) → IsScript s → length s.actors < actor_limit
+      → is_node s node ≡ true → fits_relay s node decl ≡ true → IsScript (with_relay s node decl)
+  unfolding peopled
+  relay_kept decl h room declared fits =
+      one_kept s (relaying node decl) h room (and_from _ _ declared fits)
+      (omega (arith, h.commands))

@@ -9,7 +9,7 @@ use Rattle.linx_base.specs.declared.identity.NodeNo.{NodeNo}
 use Rattle.script_words.specs.declared.command.Command.{Command}
 use Rattle.script_words.proofs.Lists.{list_all_push}
 use Rattle.script_lang.specs.Limits.{command_limit, all_commands_limit}
-use Rattle.script_lang.specs.declared.actor_script.ActorScript.{ActorScript}
+use Rattle.script_lang.specs.declared.block.ActorBlock.{ActorBlock}
 use Rattle.script_lang.specs.Parts.{ScriptParts}
 use Rattle.script_lang.specs.Fits.{command_count, fits_command}
 use Rattle.script_lang.specs.Copies.{copies}
@@ -31,7 +31,7 @@ module _ (s : ScriptParts) (commands : List Command) where
   no_room more h = rw (lt-leb (length commands + more) command_limit (omega arith)) refl
 
   module _ (node : NodeNo) where
-    so_far : List Command → ActorScript
+    so_far : List Command → ActorBlock
     so_far all = record { node = node; commands = all }
 
     -- commands that fit, where there is room for so many

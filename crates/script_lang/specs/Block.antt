@@ -10,7 +10,7 @@ use Rattle.script_words.specs.declared.block_line.RepeatLine.{RepeatLine}
 use Rattle.script_words.specs.declared.block_line.RepeatLine.TheVariants as repeat_lines
 use Rattle.script_words.specs.Gives.{◌>>=◌}
 use Rattle.script_lang.specs.Limits.{actor_limit, command_limit, all_commands_limit}
-use Rattle.script_lang.specs.declared.actor_script.ActorScript.{ActorScript}
+use Rattle.script_lang.specs.declared.block.ActorBlock.{ActorBlock}
 use Rattle.script_lang.specs.declared.reading.Place.{Place}
 use Rattle.script_lang.specs.declared.reading.Place.TheVariants.{Outside, InActor, InRepeat}
 use Rattle.script_lang.specs.declared.reading.Reading.{Reading}
@@ -21,7 +21,7 @@ use Rattle.script_lang.specs.Resolving.{resolved}
 use Rattle.script_lang.specs.Copies.{copies}
 
 -- the actor so far can be added to the script
-pub record CanEnd (s : ScriptParts) (a : ActorScript) : Type 0 where
+pub record CanEnd (s : ScriptParts) (a : ActorBlock) : Type 0 where
   pub node : is_node s a.node ≡ true
   pub room : length s.actors < actor_limit
   pub few : length a.commands ≤ command_limit
@@ -50,18 +50,18 @@ abbrev pub commands_text : List ℕ
 commands_text = codes "20,000 commands of an actor, 400,000 in all"
 
 -- the actor with these commands more, so many, where the limits let it
-abbrev pub with_commands : ScriptParts → ActorScript → ℕ → List Command → Result ActorScript Fault
+abbrev pub with_commands : ScriptParts → ActorBlock → ℕ → List Command → Result ActorBlock Fault
 with_commands s a more commands =
     if has_room s a.commands more then Ok (record a { commands = a.commands ++ commands })
     else Err (over_limit commands_text)
 
 -- the actor with one command more
-unfoldable pub command_added : ScriptParts → ActorScript → Command → Result ActorScript Fault
+unfoldable pub command_added : ScriptParts → ActorBlock → Command → Result ActorBlock Fault
 command_added s a command = with_commands s a 1 (command ∷ [])
 
 -- the actor with a repeated block written out
-unfoldable pub written_out : ScriptParts → ActorScript → ℕ → List Command
-    → Result ActorScript Fault
+unfoldable pub written_out : ScriptParts → ActorBlock → ℕ → List Command
+    → Result ActorBlock Fault
 written_out s a times commands = with_commands s a (times * length commands) (copies times commands)
 
 -- the script with an actor's open block
@@ -69,7 +69,7 @@ abbrev pub at_place : ScriptParts → List (List ℕ) → Place → Reading
 at_place s actors place = record { script = s; actors = actors; place = place }
 
 -- a line of an actor's block, outside a repeated one
-unfoldable pub in_actor : ScriptParts → List (List ℕ) → ActorScript → ActorLine
+unfoldable pub in_actor : ScriptParts → List (List ℕ) → ActorBlock → ActorLine
     → Result Reading Fault
 in_actor s actors a (actor_lines.Command named) = do
   command ← resolved s a.node named
@@ -79,7 +79,7 @@ in_actor s actors a (actor_lines.Repeat times) = Ok (at_place s actors (InRepeat
 in_actor s actors a actor_lines.End = Ok (at_place (with_actor s a.node a.commands) actors Outside)
 
 -- a line of a repeated block
-unfoldable pub in_repeat : ScriptParts → List (List ℕ) → ActorScript → ℕ → List Command
+unfoldable pub in_repeat : ScriptParts → List (List ℕ) → ActorBlock → ℕ → List Command
     → RepeatLine → Result Reading Fault
 in_repeat s actors a times commands (repeat_lines.Command named) = do
   command ← resolved s a.node named

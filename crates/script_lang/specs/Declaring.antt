@@ -8,15 +8,19 @@ use Rattle.script_words.specs.declared.fault.Fault.{Fault}
 use Rattle.script_words.specs.declared.bad_kind.BadKind.TheVariants.{TwiceNamed, OverLimit}
 use Rattle.script_words.specs.declared.declaration.Declaration.{Declaration}
 use Rattle.script_words.specs.declared.declaration.Declaration.TheVariants.{Node, Link, Plan, Actor}
+use Rattle.script_words.specs.declared.declaration.Declaration.TheVariants.{Relay}
+use Rattle.script_words.specs.declared.relay_decl.RelayDecl.{RelayDecl}
+use Rattle.script_words.specs.declared.route.Route.{Route}
 use Rattle.script_words.specs.Faults.{bad}
 use Rattle.script_words.specs.Gives.{◌>>=◌, made}
 use Rattle.script_lang.specs.Limits.{node_limit, link_limit, actor_limit, verdict_limit}
 use Rattle.script_lang.specs.declared.reading.Reading.{Reading}
 use Rattle.script_lang.specs.declared.reading.Place.TheVariants.{Outside, InActor}
 use Rattle.script_lang.specs.Parts.{ScriptParts, planned_verdicts, with_node, with_link}
-use Rattle.script_lang.specs.Parts.{with_verdicts}
+use Rattle.script_lang.specs.Parts.{with_verdicts, with_relay}
 use Rattle.script_lang.specs.Fits.{is_among}
 use Rattle.script_lang.specs.Naming.{node_named, link_named}
+use Rattle.script_lang.specs.Resolving.{path_resolved}
 
 -- the fault of a name that stands twice
 abbrev pub twice_named : List ℕ → Fault
@@ -67,6 +71,19 @@ actor_begun s actors name node = do
 abbrev pub outside : List (List ℕ) → ScriptParts → Reading
 outside actors s = record { script = s; actors = actors; place = Outside }
 
+-- what was read so far, with a relay: its name is a new one of an actor, and its path goes over a
+-- link of its node
+unfoldable pub relay_added : ScriptParts → List (List ℕ) → List ℕ → List ℕ → List ℕ → Route
+    → Result Reading Fault
+relay_added s actors name node endpoint route = do
+  n ← node_named s node
+  path ← path_resolved s n route
+  let decl : RelayDecl = record { endpoint = endpoint; path = path } in
+      if is_among actors name then Err (twice_named name)
+      else if nat_lt (length s.actors) actor_limit
+      then Ok (outside (actors ++ name ∷ []) (with_relay s n decl))
+      else Err (over_limit (codes "64 actors"))
+
 -- what a line outside a block makes of what was read so far
 unfoldable pub declared : ScriptParts → List (List ℕ) → Declaration → Result Reading Fault
 declared s actors (Node name) = made (outside actors) (node_added s name)
@@ -75,3 +92,5 @@ declared s actors (Link name first second window piece) =
 declared s actors (Plan link from verdicts) =
     made (outside actors) (plan_added s link from verdicts)
 declared s actors (Actor name node) = actor_begun s actors name node
+declared s actors (Relay name node endpoint route) =
+    relay_added s actors name node endpoint route

@@ -12,6 +12,7 @@ use Rattle.linx_base.specs.Content.{data_limit}
 use Rattle.linx_base.specs.NameText.{is_name}
 use Rattle.linx_base.specs.Verdicts.{fits_verdict}
 use Rattle.script_words.specs.declared.command.Command.{Command}
+use Rattle.script_words.specs.declared.relay_decl.RelayDecl.{RelayDecl}
 use Rattle.script_words.specs.declared.command.Command.TheVariants.{Open, Close, Send, Forward}
 use Rattle.script_words.specs.declared.command.Command.TheVariants.{Recv, Hunt, Attach, Detach}
 use Rattle.script_words.specs.declared.command.Command.TheVariants.{Keep, Cut, Mend, Restart}
@@ -20,7 +21,7 @@ use Rattle.script_words.specs.Limits.{attach_data_limit}
 use Rattle.script_words.specs.Numbers.{is_within}
 use Rattle.script_words.specs.Filling.{fits_data}
 use Rattle.script_words.specs.Filter.{fits_filter}
-use Rattle.script_words.specs.Declaration.{has_link_size}
+use Rattle.script_words.specs.Declaration.{has_link_size, leaves_room_for_hop}
 use Rattle.script_lang.specs.declared.actor_script.ActorScript.{ActorScript}
 use Rattle.script_lang.specs.declared.plans.Plans.{Plans}
 use Rattle.script_lang.specs.Limits.{node_limit, link_limit, actor_limit, command_limit}
@@ -87,11 +88,23 @@ fits_command s node (Mend link) = is_link s link
 fits_command s node (Restart other) = is_node s other
 fits_command s node (Settle link) = is_link s link
 
--- an actor on a declared node with commands that fit, and not too many
+-- a relay on the node: its endpoint has a name that is still one with `.hop` behind it, and its path
+-- goes over a link of the node
+abbrev pub fits_relay : ScriptParts → NodeNo → RelayDecl → Bool
+fits_relay s node decl = leaves_room_for_hop decl.endpoint && fits_path s node decl.path
+
+-- an actor on the node that is this relay, if it is one
+abbrev pub fits_kind : ScriptParts → NodeNo → Option RelayDecl → Bool
+fits_kind s node None = true
+fits_kind s node (Some decl) = fits_relay s node decl
+
+-- an actor on a declared node with commands that fit, and not too many, or a relay that fits
 abbrev pub fits_actor : ScriptParts → ActorScript → Bool
 fits_actor s actor =
-    is_node s actor.node && nat_le (length actor.commands) command_limit
-    && list_all (fits_command s actor.node) actor.commands
+    is_node s actor.node
+    && (nat_le (length actor.commands) command_limit
+    && (list_all (fits_command s actor.node) actor.commands
+    && fits_kind s actor.node actor.relay))
 
 -- the commands of all actors
 abbrev pub command_count : List ActorScript → ℕ

@@ -7,6 +7,7 @@ use Rattle.linx_base.specs.declared.identity.Side.TheVariants.{First, Second}
 use Rattle.linx_base.specs.declared.frame.LinkDecl.{LinkDecl}
 use Rattle.linx_base.specs.declared.frame.Verdict.{Verdict}
 use Rattle.script_words.specs.declared.command.Command.{Command}
+use Rattle.script_words.specs.declared.relay_decl.RelayDecl.{RelayDecl}
 use Rattle.script_lang.specs.declared.actor_script.ActorScript.{ActorScript}
 use Rattle.script_lang.specs.declared.plans.Plans.{Plans}
 
@@ -74,7 +75,18 @@ with_verdicts s link from verdicts =
 abbrev pub with_verdict : ScriptParts → LinkNo → Side → Verdict → ScriptParts
 with_verdict s link from verdict = with_verdicts s link from (verdict ∷ [])
 
--- the script with one more actor
+-- an actor of these commands
+abbrev pub acting : NodeNo → List Command → ActorScript
+acting node commands = record { node = node; commands = commands; relay = None }
+
+-- a relay, which has no commands
+abbrev pub relaying : NodeNo → RelayDecl → ActorScript
+relaying node decl = record { node = node; commands = []; relay = Some decl }
+
+-- the script with one more actor of these commands
 abbrev pub with_actor : ScriptParts → NodeNo → List Command → ScriptParts
-with_actor s node commands =
-    record s { actors = s.actors ++ record { node = node; commands = commands } ∷ [] }
+with_actor s node commands = record s { actors = s.actors ++ acting node commands ∷ [] }
+
+-- the script with one more relay
+abbrev pub with_relay : ScriptParts → NodeNo → RelayDecl → ScriptParts
+with_relay s node decl = record s { actors = s.actors ++ relaying node decl ∷ [] }

@@ -17,9 +17,16 @@ use crate::declaring::over_limit;
 use crate::reading::{Place, Reading};
 use crate::resolving::resolve;
 use crate::script::Script;
-use linx_base::NameList;
+use linx_base::{NameList, NodeNo};
 use script_words::{ActorLine, Command, LineError, RepeatLine};
 use std::alloc::Global;
+
+/// An actor whose block is open: its node, and its commands so far.
+#[derive(Drop)]
+pub(crate) struct ActorBlock {
+    pub node: NodeNo,
+    pub commands: Commands,
+}
 
 /// The most commands of an actor.
 const COMMANDS_MOST: usize = 20_000;
@@ -64,36 +71,36 @@ fn has_room(script: &Script, commands: &Commands, more: usize) -> bool
 #[tactic(auto, using(crate::proofs::Room::one_more), unfolding(crate::specs::Block::command_added))]
 fn add_command(
     script: &Script,
-    actor: ActorScript,
+    actor: ActorBlock,
     command: Command,
-) -> Result<ActorScript, LineError>
+) -> Result<ActorBlock, LineError>
     requires fits { CanEnd script.now actor }
     requires command { fits_command script.now actor.node command ≡ true }
     ensures gives { Gives (λ a. a) result (command_added script.now actor command) }
     ensures fits { IfOk result (λ a. CanEnd script.now a) }
 {
-    let ActorScript { node, mut commands } = actor;
+    let ActorBlock { node, mut commands } = actor;
     if !has_room(script, &commands, 1) {
         return Err(too_many_commands());
     }
     commands.push(command)?;
-    Ok(ActorScript { node, commands })
+    Ok(ActorBlock { node, commands })
 }
 
 /// The actor with the repeated block written out.
 #[tactic(auto, using(crate::proofs::Room::copied), unfolding(crate::specs::Block::written_out))]
 fn write_out(
     script: &Script,
-    actor: ActorScript,
+    actor: ActorBlock,
     times: u32,
     repeated: &[Command],
-) -> Result<ActorScript, LineError>
+) -> Result<ActorBlock, LineError>
     requires fits { CanEnd script.now actor }
     requires repeated { list_all (fits_command script.now actor.node) repeated.now ≡ true }
     ensures gives { Gives (λ a. a) result (written_out script.now actor times repeated.now) }
     ensures fits { IfOk result (λ a. CanEnd script.now a) }
 {
-    let ActorScript { node, mut commands } = actor;
+    let ActorBlock { node, mut commands } = actor;
     let Some(more) = (times as usize).checked_mul(repeated.len()) else {
         return Err(too_many_commands());
     };
@@ -101,7 +108,7 @@ fn write_out(
         return Err(too_many_commands());
     }
     add_copies(&mut commands, times, repeated)?;
-    Ok(ActorScript { node, commands })
+    Ok(ActorBlock { node, commands })
 }
 
 /// A line of an actor's block, outside a repeated one.
@@ -110,7 +117,7 @@ pub(crate) fn take_actor_line(
     alloc: Global,
     script: Script,
     actors: NameList,
-    actor: ActorScript,
+    actor: ActorBlock,
     line: ActorLine,
 ) -> Result<Reading, LineError>
     requires fits { CanEnd script actor }
@@ -154,7 +161,7 @@ pub(crate) fn take_actor_line(
 pub(crate) fn take_repeat_line(
     script: Script,
     actors: NameList,
-    actor: ActorScript,
+    actor: ActorBlock,
     times: u32,
     commands: Commands,
     line: RepeatLine,

@@ -6,19 +6,21 @@ ghost use Rattle.linx_base.specs.Verdicts.{fits_verdict};
 ghost use Rattle.script_lang.specs.Limits.{verdict_limit};
 ghost use Rattle.script_words.specs.declared.line_error.LineError.TheVariants as errors;
 ghost use Rattle.script_words.specs.Gives.{Gives};
-ghost use Rattle.script_words.specs.Declaration.{has_link_size, is_in_range};
+ghost use Rattle.script_words.specs.Declaration.{has_link_size, is_in_range, leaves_room_for_hop};
 ghost use Rattle.script_lang.specs.Parts.{planned_verdicts, with_verdicts};
 ghost use Rattle.script_lang.specs.Fits.{is_link};
 ghost use Rattle.script_lang.specs.Block.{CanGoOn};
 ghost use Rattle.script_lang.specs.Declaring.{twice_named, over_limit, node_added, link_added};
-ghost use Rattle.script_lang.specs.Declaring.{plan_added, actor_begun, declared};
+ghost use Rattle.script_lang.specs.Declaring.{plan_added, actor_begun, relay_added, declared};
 
-use crate::actor_script::{ActorScript, Commands};
+use crate::actor_script::Commands;
+use crate::block::ActorBlock;
 use crate::naming::{is_taken, link_of_name, node_of_name};
 use crate::reading::{Place, Reading};
+use crate::resolving::resolve_path;
 use crate::script::Script;
 use linx_base::{LinkDecl, LinkNo, Name, NameList, NoMemory, Side, Verdict};
-use script_words::{BadKind, Declaration, Fault, LineError};
+use script_words::{BadKind, Declaration, Fault, LineError, RelayDecl, Route};
 use std::alloc::Global;
 
 /// The most nodes of a script.
@@ -163,10 +165,44 @@ fn begin_actor(
     Ok(Reading {
         script,
         actors,
-        place: Place::InActor(ActorScript {
+        place: Place::InActor(ActorBlock {
             node,
             commands: Commands::new(alloc),
         }),
+    })
+}
+
+/// A relay: its name is a new one of an actor, and its path goes over a link of its node.
+#[tactic(auto, unfolding(crate::specs::Declaring::relay_added))]
+fn add_relay(
+    script: Script,
+    actors: NameList,
+    name: Name,
+    node: &Name,
+    endpoint: Name,
+    path: Route,
+) -> Result<Reading, LineError>
+    requires { leaves_room_for_hop endpoint ≡ true }
+    ensures gives { Gives (λ r. r) result
+        (relay_added script actors name node.now endpoint path) }
+    ensures fits { IfOk result (λ r. CanGoOn r) }
+{
+    let mut script = script;
+    let mut actors = actors;
+    let node = node_of_name(&script, node)?;
+    let path = resolve_path(&script, node, path)?;
+    if is_taken(actors.as_slice(), &name) {
+        return Err(twice_named(&name));
+    }
+    if script.actors().len() >= ACTORS_MOST {
+        return Err(over_limit(b"64 actors"));
+    }
+    script.add_relay(node, RelayDecl { endpoint, path })?;
+    actors.push(name)?;
+    Ok(Reading {
+        script,
+        actors,
+        place: Place::Outside,
     })
 }
 
@@ -198,6 +234,14 @@ pub(crate) fn declare(
         } => add_plan(script, &link, from, verdicts.as_slice())?,
         Declaration::Actor { name, node } => {
             return begin_actor(alloc, script, actors, name, &node);
+        }
+        Declaration::Relay {
+            name,
+            node,
+            endpoint,
+            path,
+        } => {
+            return add_relay(script, actors, name, &node, endpoint, path);
         }
     };
     Ok(Reading {

@@ -21,4 +21,4 @@ pub use parsing::parse;
 pub use plans::Plans;
 pub use script::Script;
 pub use script_error::ScriptError;
-pub use script_words::{BadKind, Command, Fault, Filling, Target, Verdicts, Word};
+pub use script_words::{BadKind, Command, Fault, Filling, RelayDecl, Target, Verdicts, Word};

@@ -6,8 +6,8 @@ ghost use Rattle.script_words.specs.Gives.{Gives};
 ghost use Rattle.script_lang.specs.Block.{CanGoOn};
 ghost use Rattle.script_lang.specs.Reading.{nothing_read, worded, lined, finished, IsBadOf};
 
-use crate::actor_script::{ActorScript, Commands};
-use crate::block::{take_actor_line, take_repeat_line};
+use crate::actor_script::Commands;
+use crate::block::{ActorBlock, take_actor_line, take_repeat_line};
 use crate::declaring::declare;
 use crate::script::Script;
 use crate::script_error::ScriptError;
@@ -23,10 +23,10 @@ const SCRIPT_MOST: usize = 1_048_576;
 pub(crate) enum Place {
     Outside,
     /// The actor so far.
-    InActor(ActorScript),
+    InActor(ActorBlock),
     /// The actor so far, and the commands so far that are repeated.
     InRepeat {
-        actor: ActorScript,
+        actor: ActorBlock,
         times: u32,
         commands: Commands,
     },

@@ -1,17 +1,15 @@
 //! Commands with their names looked up.
 
 ghost use Rattle.std.specs.Prelude.{◌≡◌, IfOk, IsTrue, true};
-ghost use Rattle.linx_base.specs.Content.{data_limit};
 ghost use Rattle.script_words.specs.Gives.{Gives};
-ghost use Rattle.script_words.specs.Filling.{fits_data};
 ghost use Rattle.script_words.specs.NamedCommand.{is_sized};
-ghost use Rattle.script_lang.specs.Fits.{is_link, has_end, fits_command};
-ghost use Rattle.script_lang.specs.Resolving.{hunt_resolved, resolved};
+ghost use Rattle.script_lang.specs.Fits.{is_link, has_end, fits_command, fits_path};
+ghost use Rattle.script_lang.specs.Resolving.{path_resolved, resolved};
 
 use crate::naming::{link_of_name, node_of_name, unknown_name};
 use crate::script::Script;
 use linx_base::{LinkNo, NodeNo, Path};
-use script_words::{Command, Filling, LineError, NamedCommand, Route};
+use script_words::{Command, LineError, NamedCommand, Route};
 
 /// Whether a declared link has an end on the node.
 #[tactic(auto, using(crate::proofs::Commands::has_end_at))]
@@ -24,36 +22,22 @@ fn joins_node(script: &Script, link: LinkNo, node: NodeNo) -> bool
     decl.first.0 == node.0 || decl.second.0 == node.0
 }
 
-#[tactic(auto, unfolding(crate::specs::Resolving::hunt_resolved))]
-fn resolve_hunt(
-    script: &Script,
-    node: NodeNo,
-    route: Route,
-    number: u32,
-    bytes: Filling,
-) -> Result<Command, LineError>
-    requires { fits_data data_limit bytes ≡ true }
-    ensures fits { IfOk result (λ c. fits_command script.now node c ≡ true) }
-    ensures gives { Gives (λ c. c) result (hunt_resolved script.now node route number bytes) }
+/// A path from the node, with the name of its link looked up: the link has an end there.
+#[tactic(auto, unfolding(crate::specs::Resolving::path_resolved))]
+pub(crate) fn resolve_path(script: &Script, node: NodeNo, route: Route) -> Result<Path, LineError>
+    ensures fits { IfOk result (λ p. fits_path script.now node p ≡ true) }
+    ensures gives { Gives (λ p. p) result (path_resolved script.now node route) }
 {
     match route {
-        Route::Local(name) => Ok(Command::Hunt {
-            path: Path::Local(name),
-            number,
-            bytes,
-        }),
+        Route::Local(name) => Ok(Path::Local(name)),
         Route::Over { link, name } => {
             let number_of_link = link_of_name(script, &link)?;
             if !joins_node(script, number_of_link, node) {
                 return Err(unknown_name(&link));
             }
-            Ok(Command::Hunt {
-                path: Path::Over {
-                    link: number_of_link,
-                    name,
-                },
-                number,
-                bytes,
+            Ok(Path::Over {
+                link: number_of_link,
+                name,
             })
         }
     }
@@ -76,7 +60,14 @@ pub(crate) fn resolve(
             route,
             number,
             bytes,
-        } => resolve_hunt(script, node, route, number, bytes),
+        } => {
+            let path = resolve_path(script, node, route)?;
+            Ok(Command::Hunt {
+                path,
+                number,
+                bytes,
+            })
+        }
         NamedCommand::Cut(link) => {
             let link = link_of_name(script, &link)?;
             Ok(Command::Cut(link))

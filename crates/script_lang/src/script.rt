@@ -4,14 +4,14 @@ ghost use Rattle.linx_base.specs.Verdicts.{fits_verdict};
 ghost use Rattle.script_lang.specs.Limits.{actor_limit, all_commands_limit, command_limit};
 ghost use Rattle.script_lang.specs.Limits.{link_limit, node_limit, verdict_limit};
 ghost use Rattle.script_lang.specs.Parts.{empty_script, planned_verdicts, with_node, with_link};
-ghost use Rattle.script_lang.specs.Parts.{with_verdict, with_actor};
+ghost use Rattle.script_lang.specs.Parts.{with_verdict, with_actor, with_relay};
 ghost use Rattle.script_lang.specs.Fits.{is_node, is_link, is_among, fits_link, fits_command};
-ghost use Rattle.script_lang.specs.Fits.{command_count, IsScript};
+ghost use Rattle.script_lang.specs.Fits.{command_count, fits_relay, IsScript};
 
 use crate::actor_script::{ActorScript, Commands};
 use crate::plans::{Plans, plan_at, plan_more};
 use linx_base::{LinkDecl, LinkNo, Name, NameList, Names, NoMemory, NodeNo, Side, Verdict};
-use script_words::Verdicts;
+use script_words::{RelayDecl, Verdicts};
 use std::alloc::Global;
 use std::marker::Model;
 
@@ -136,7 +136,7 @@ impl Script {
         Ok(())
     }
 
-    /// Adds an actor. A refusal changes nothing.
+    /// Adds an actor of these commands. A refusal changes nothing.
     pub fn add_actor(&mut self, node: NodeNo, commands: Commands) -> Result<(), NoMemory>
         requires room { length self.old.actors < actor_limit }
         requires node { IsTrue (is_node self.old node) }
@@ -146,7 +146,28 @@ impl Script {
         ensures ok { OnOk result (self.new ≡ with_actor self.old node commands) }
         ensures err { OnErr result (self.new ≡ self.old) }
     {
-        self.actors.push(ActorScript { node, commands })?;
+        self.actors.push(ActorScript {
+            node,
+            commands,
+            relay: None,
+        })?;
+        Ok(())
+    }
+
+    /// Adds a relay, which is an actor without commands. A refusal changes nothing.
+    pub fn add_relay(&mut self, node: NodeNo, decl: RelayDecl) -> Result<(), NoMemory>
+        requires room { length self.old.actors < actor_limit }
+        requires node { IsTrue (is_node self.old node) }
+        requires fits { IsTrue (fits_relay self.old node decl) }
+        ensures ok { OnOk result (self.new ≡ with_relay self.old node decl) }
+        ensures err { OnErr result (self.new ≡ self.old) }
+    {
+        let alloc = *self.actors.allocator();
+        self.actors.push(ActorScript {
+            node,
+            commands: Commands::new(alloc),
+            relay: Some(decl),
+        })?;
         Ok(())
     }
 }

@@ -7,7 +7,8 @@ use Rattle.script_words.specs.declared.line_error.LineError.{LineError}
 use Rattle.script_words.specs.Faults.{bad_shape}
 use Rattle.script_words.specs.Gives.{Gives}
 use Rattle.script_words.specs.Words.{alone}
-use Rattle.script_words.specs.Declaration.{link_of, plan_of, actor_of, is_in_range}
+use Rattle.script_words.specs.Declaration.{link_of, plan_of, actor_of, relay_of}
+use Rattle.script_words.specs.Declaration.{is_in_range}
 use Rattle.script_words.specs.NamedCommand.{attach_command_of}
 
 module _ (statement : List ℕ) where
@@ -32,6 +33,15 @@ module _ (statement : List ℕ) where
   actor_few [] few = refl
   actor_few (a ∷ []) few = refl
   actor_few (a ∷ b ∷ words) few = absurd (omega arith)
+
+  pub relay_few : (words : List (List ℕ)) → length words < 4
+      → relay_of statement words ≡ Err (bad_shape statement)
+  unfolding relay_of
+  relay_few [] few = refl
+  relay_few (a ∷ []) few = refl
+  relay_few (a ∷ b ∷ []) few = refl
+  relay_few (a ∷ b ∷ c ∷ []) few = refl
+  relay_few (a ∷ b ∷ c ∷ d ∷ words) few = absurd (omega arith)
 
   pub attach_few : (words : List (List ℕ)) → length words < 2
       → attach_command_of statement words ≡ Err (bad_shape statement)

@@ -49,6 +49,10 @@ piece_limit = 8192
 abbrev pub piece_unsaid : ℕ
 piece_unsaid = 1400
 
+-- the most bytes of the name of a relay's endpoint
+abbrev pub relay_endpoint_limit : ℕ
+relay_endpoint_limit = 28
+
 -- the most copies of a repeated block
 abbrev pub repeat_limit : ℕ
 repeat_limit = 20000

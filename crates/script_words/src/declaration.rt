@@ -2,11 +2,13 @@ ghost use Rattle.std.specs.Prelude.{◌≡◌, true, map, IfOk};
 ghost use Rattle.script_words.specs.Gives.{Gives};
 ghost use Rattle.script_words.specs.Numbers.{is_within};
 ghost use Rattle.script_words.specs.Declaration.{size_behind, link_of, plan_of, actor_of};
+ghost use Rattle.script_words.specs.Declaration.{relay_of, relay_endpoint_of, leaves_room_for_hop};
 ghost use Rattle.script_words.specs.Declaration.{declaration_of, is_in_range};
 
 use crate::line_error::{LineError, bad_shape, unknown_word};
 use crate::names::{name, one_name};
 use crate::numbers::number_within;
+use crate::route::Route;
 use crate::verdicts::{Verdicts, side, some_verdicts};
 use crate::words::{alone, is_text};
 use linx_base::{Name, Side};
@@ -26,6 +28,9 @@ const PIECE_MOST: u32 = 8192;
 
 /// The most bytes of a frame where a link's line says none.
 const PIECE_UNSAID: u32 = 1400;
+
+/// The most bytes of the name of a relay's endpoint, so that it is a name with `.hop` behind it.
+const RELAY_ENDPOINT_MOST: usize = 28;
 
 /// What a line outside a block declares.
 #[derive(Drop)]
@@ -49,6 +54,14 @@ pub enum Declaration {
     Actor {
         name: Name,
         node: Name,
+    },
+    /// An actor without a block, which opens this endpoint, whose name has at most 28 bytes, and
+    /// passes signals on between its first client and the endpoint at the end of the path.
+    Relay {
+        name: Name,
+        node: Name,
+        endpoint: Name,
+        path: Route,
     },
 }
 
@@ -133,6 +146,40 @@ fn actor(alloc: Global, statement: &[u8], words: &[&[u8]]) -> Result<Declaration
     alone(rest, Declaration::Actor { name: actor, node })
 }
 
+/// The name of a relay's endpoint.
+#[tactic(auto, unfolding(crate::specs::Declaration::relay_endpoint_of))]
+fn relay_endpoint(alloc: Global, word: &[u8]) -> Result<Name, LineError>
+    ensures gives { Gives (λ n. n) result (relay_endpoint_of word.now) }
+    ensures short { IfOk result (λ n. leaves_room_for_hop n ≡ true) }
+{
+    let endpoint = name(alloc, word)?;
+    if endpoint.bytes().len() > RELAY_ENDPOINT_MOST {
+        return Err(bad_shape(word));
+    }
+    Ok(endpoint)
+}
+
+#[tactic(auto, unfolding(crate::specs::Declaration::relay_of))]
+fn relay(alloc: Global, statement: &[u8], words: &[&[u8]]) -> Result<Declaration, LineError>
+    ensures gives { Gives (λ d. d) result (relay_of statement.now (map (λ w. w.now) words.now)) }
+    ensures range { IfOk result (λ d. is_in_range d ≡ true) }
+{
+    let [relay, node, endpoint, path, rest @ ..] = words else {
+        return Err(bad_shape(statement));
+    };
+    let relay = name(alloc, relay)?;
+    let node = name(alloc, node)?;
+    let endpoint = relay_endpoint(alloc, endpoint)?;
+    let path = Route::of(alloc, path)?;
+    let declaration = Declaration::Relay {
+        name: relay,
+        node,
+        endpoint,
+        path,
+    };
+    alone(rest, declaration)
+}
+
 impl Declaration {
     /// What a line outside a block declares, by its first word and the words behind it.
     #[tactic(auto, unfolding(crate::specs::Declaration::declaration_of))]
@@ -153,6 +200,9 @@ impl Declaration {
         }
         if is_text(first, b"actor") {
             return actor(alloc, first, words);
+        }
+        if is_text(first, b"relay") {
+            return relay(alloc, first, words);
         }
         Err(unknown_word(first))
     }

@@ -18,22 +18,22 @@ use Rattle.trunk_moves.specs.Trunks.{RunTrunks, links_of}
 use Rattle.fabric.specs.Run.{AreFirst, IsMade, Layout}
 use Rattle.stage.specs.Pumps.{pump_event}
 use Rattle.stage.specs.Settlings.{Settler, settler_now}
-use Rattle.stage.specs.Turns.{commands_of, shape_of}
+use Rattle.stage.specs.Turns.{part_of, shape_of}
 
 -- what a stage is seen as: the script, and the run so far
 pub record Play : Type 0 where
   pub script : ScriptParts
   pub run : Layout
 
--- each actor's steps are the first of its commands
+-- each actor's steps are the first of its part
 abbrev pub AllFollow : ScriptParts → List Step → Type 0
 AllFollow script P =
-    (k : ℕ) → 0 < k → k ≤ length script.actors → Follows (commands_of script k) k P
+    (k : ℕ) → 0 < k → k ≤ length script.actors → Follows (part_of script k) k P
 
--- each actor's steps are all of its commands, and its end
+-- each actor's steps are all of its part, and its end
 abbrev pub AllFollowWhole : ScriptParts → List Step → Type 0
 AllFollowWhole script P =
-    (k : ℕ) → 0 < k → k ≤ length script.actors → FollowsWhole (commands_of script k) k P
+    (k : ℕ) → 0 < k → k ≤ length script.actors → FollowsWhole (part_of script k) k P
 
 -- a step of a packet or of a side's clock is the one that the pump's rule asks for
 abbrev pub IsPlannedHead : ScriptParts → List Step → RunTrunks → Head → Type 0
@@ -89,7 +89,7 @@ IsScriptRun script (s ∷ P) after =
     (before : RunTrunks) × (IsScriptRun script P before × IsScriptStep script P before s after)
 
 -- A RUN OF THE SCRIPT SO FAR: the script is within its limits, the run has its names, each actor
--- follows its commands, and the journal is legal by the laws of nodes and links
+-- follows its part, and the journal is legal by the laws of nodes and links
 pub record IsSoFar (script : ScriptParts) (layout : Layout) : Type 0 where
   pub declared : IsScript script
   pub shape : layout.shape ≡ shape_of script

@@ -12,9 +12,8 @@ use Rattle.journal.specs.Shapes.{Shape}
 use Rattle.node_kernel.specs.Answers.{is_not_yet}
 use Rattle.node_kernel.specs.declared.answers.StepAnswer.{StepAnswer}
 use Rattle.node_kernel.specs.declared.ask.Ask.{Ask}
-use Rattle.script_words.specs.declared.command.Command.{Command}
 use Rattle.script_lang.specs.declared.actor_script.ActorScript.{ActorScript}
-use Rattle.script_lang.specs.Parts.{ScriptParts}
+use Rattle.script_lang.specs.Parts.{ScriptParts, acting}
 use Rattle.actor_run.specs.Following.{next_ask}
 use Rattle.run_trunks.specs.States.{new_trunks, trunks_of}
 use Rattle.fabric.specs.declared.stop.StopCause.{StopCause}
@@ -35,15 +34,19 @@ use Rattle.stage.specs.Settlings.{IsDone, IsHalfDone, settler_in, stirs_in}
 abbrev pub shape_of : ScriptParts → Shape
 shape_of script = record { links = script.links; actors = map (λ a. a.node) script.actors }
 
--- the commands of an actor, from 1; none for what is no actor
-abbrev pub commands_in : Option ActorScript → List Command
-commands_in None = []
-commands_in (Some a) = a.commands
+-- the part of nobody: no commands, on no node
+abbrev pub no_part : ActorScript
+no_part = acting (record { 0 = 0 }) []
 
--- the commands of actor number k of a script
-abbrev pub commands_of : ScriptParts → ℕ → List Command
-commands_of script zero = []
-commands_of script (suc k) = commands_in (slice_get script.actors k)
+-- the part of an actor; that of nobody for what is no actor
+abbrev pub part_in : Option ActorScript → ActorScript
+part_in None = no_part
+part_in (Some a) = a
+
+-- the part of actor number k of a script, from 1
+abbrev pub part_of : ScriptParts → ℕ → ActorScript
+part_of script zero = no_part
+part_of script (suc k) = part_in (slice_get script.actors k)
 
 -- ---- a turn of an actor
 
@@ -59,7 +62,7 @@ turn_by (Stopped stop) = Err stop.cause
 
 -- what actor k's script asks for next
 abbrev pub asked_next : ScriptParts → ℕ → Layout → Ask
-asked_next script k f = next_ask (commands_of script k) k f.log.steps
+asked_next script k f = next_ask (part_of script k) k f.log.steps
 
 -- actor k does what its script asks for next, and this comes of it
 pub record IsActed (script : ScriptParts) (k : ℕ) (old new : Layout) (turn : Turn) : Type 0 where

@@ -3,7 +3,7 @@
 //! rounds go on until all actors have ended and no link stirs. The turn of an actor that settles a
 //! link goes on until that link doesn't stir: the actor makes the steps of its pump. Whatever
 //! happens on the way, the journal is that of these turns so far: it is legal, each actor's steps
-//! follow its commands, and each packet meets the verdict that is planned for it. A whole run
+//! follow its part, and each packet meets the verdict that is planned for it. A whole run
 //! always comes to its end: a round after which not all is over made a step, and a journal takes no
 //! more than 200,000.
 #![tactic(auto)]

@@ -1,13 +1,12 @@
 //! An actor of a script: what it does in a turn, and what it learns.
 ghost use Rattle.std.specs.Prelude.{◌≡◌, ◌<◌, ◌≤◌, true, length, None, Err, IfOk, IfErr, OnErr};
 ghost use Rattle.journal.specs.Logs.{is_full};
-ghost use Rattle.actor_run.specs.Asking.{AreRunnable};
 ghost use Rattle.actor_run.specs.Following.{Playing, endpoint_after};
-ghost use Rattle.actor_run.specs.Knowing.{told};
+ghost use Rattle.actor_run.specs.Minds.{IsRunnable, IsWithin, told};
 ghost use Rattle.fabric.specs.Actings.{OnlyRuns};
 ghost use Rattle.script_lang.specs.Fits.{IsScript};
 ghost use Rattle.stage.specs.Stops.{IsCauseOf};
-ghost use Rattle.stage.specs.Turns.{IsActed, IsTurnStopped, came_of, commands_of, shape_of};
+ghost use Rattle.stage.specs.Turns.{IsActed, IsTurnStopped, came_of, part_of, shape_of};
 ghost use Rattle.stage.specs.Turns.{turn_by};
 ghost use Rattle.stage.specs.Seats.{IsSeated, Learns};
 
@@ -37,23 +36,23 @@ fn came_of(answer: &StepAnswer) -> Turn
     }
 }
 
-/// The node and the commands of an actor of the script, by its number from 1.
+/// The part of an actor of the script, by its number from 1.
 pub fn actor_of(script: &Script, actor: u32) -> &ActorScript
     requires above { 0 < actor }
     requires within { actor ≤ length script.now.actors }
-    ensures commands { result.now.commands ≡ commands_of script.now actor }
-    ensures runnable { AreRunnable result.now.commands }
+    ensures part { result.now ≡ part_of script.now actor }
+    ensures runnable { IsRunnable result.now }
     ensures script { IsScript script.now }
 {
     &script.actors()[(actor - 1) as usize]
 }
 
 impl Player {
-    /// Learns what the answer to a command tells.
+    /// Learns what the answer tells.
     fn told(&mut self, script: &ActorScript, answer: StepAnswer)
-        requires runnable { AreRunnable script.now.commands }
-        requires place { self.old.mind.place ≤ length script.now.commands }
-        ensures mind { self.new.mind ≡ told script.now.commands self.old.mind answer }
+        requires runnable { IsRunnable script.now }
+        requires within { IsWithin script.now self.old.mind }
+        ensures mind { self.new.mind ≡ told script.now self.old.mind answer }
         ensures me { self.new.me ≡ endpoint_after self.old.me answer }
     {
         self.me = endpoint_after(self.me, &answer);
@@ -62,9 +61,9 @@ impl Player {
 
     /// Learns what came of what it asked for, and tells what that makes of its turn.
     pub fn learn(&mut self, script: &ActorScript, acted: Acted) -> Result<Turn, StopCause>
-        requires runnable { AreRunnable script.now.commands }
-        requires place { self.old.mind.place ≤ length script.now.commands }
-        ensures learns { Learns script.now.commands self.old acted self.new }
+        requires runnable { IsRunnable script.now }
+        requires within { IsWithin script.now self.old.mind }
+        ensures learns { Learns script.now self.old acted self.new }
         ensures came { result ≡ turn_by acted }
     {
         match acted {
@@ -98,7 +97,7 @@ pub(crate) fn turn_of(
     requires within { actor ≤ length script.now.actors }
     requires shape { fabric.old.shape ≡ shape_of script.now }
     requires names { fabric.old.log.names ≡ script.now.names }
-    requires playing { Playing (commands_of script.now actor) actor fabric.old.log.steps
+    requires playing { Playing (part_of script.now actor) actor fabric.old.log.steps
         player.old.mind player.old.me }
     ensures ok { IfOk result (IsActed script.now actor fabric.old fabric.new) }
     ensures err { OnErr result (IsTurnStopped script.now actor fabric.old fabric.new) }
@@ -110,10 +109,10 @@ pub(crate) fn turn_of(
     if fabric.journal().full() {
         return Err(StopCause::JournalFull);
     }
-    let commands = actor_of(script, actor);
-    let Ok(ask) = player.mind.next(alloc, commands, player.me) else {
+    let part = actor_of(script, actor);
+    let Ok(ask) = player.mind.next(alloc, part, player.me) else {
         return Err(StopCause::NoMemory);
     };
     let acted = act(fabric, actor, ask);
-    player.learn(commands, acted)
+    player.learn(part, acted)
 }

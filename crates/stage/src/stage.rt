@@ -128,7 +128,7 @@ impl Stage {
         }
     }
 
-    /// The journal so far, which is legal, in which each actor follows its commands and the links
+    /// The journal so far, which is legal, in which each actor follows its part and the links
     /// do as is planned.
     pub fn journal(&self) -> &Journal
         ensures log { result.now.log ≡ self.now.run.log }
@@ -138,7 +138,7 @@ impl Stage {
         self.fabric.journal()
     }
 
-    /// The journal. Where all is over, each actor has followed its commands to their end, and every
+    /// The journal. Where all is over, each actor has followed its part to its end, and every
     /// link is still and rests: it is cut and up at neither end, or both sides are up with each
     /// other, and what each said is what the other was given.
     pub fn into_journal(self) -> Journal

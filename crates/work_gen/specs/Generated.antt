@@ -21,7 +21,7 @@ use Rattle.script_words.specs.Filling.{no_data}
 use Rattle.script_words.specs.Limits.{window_unsaid, piece_unsaid, hunt_signal, attach_signal}
 use Rattle.script_lang.specs.declared.actor_script.ActorScript.{ActorScript}
 use Rattle.script_lang.specs.declared.plans.Plans.{Plans}
-use Rattle.script_lang.specs.Parts.{ScriptParts, parts_of}
+use Rattle.script_lang.specs.Parts.{ScriptParts, acting, parts_of}
 use Rattle.script_lang.specs.Copies.{copies}
 
 -- the numbers from 1 to a count
@@ -116,7 +116,7 @@ leaving = Detach (codes "r") ∷ Send (Kept (codes "s")) 12 no_data ∷ []
 
 -- the server of link k stands on the link's second node
 abbrev pub server : ℕ → ActorScript
-server k = record { node = record { 0 = k + 1 }; commands = server_commands k }
+server k = acting (record { 0 = k + 1 }) (server_commands k)
 
 -- client i finds the server of link k, asks it, and takes leave
 abbrev pub client_commands : ℕ → ℕ → ℕ → List Command
@@ -124,7 +124,7 @@ client_commands n k i = finding k i ++ (asking n i ++ leaving)
 
 -- client i stands on the first node of link k
 abbrev pub client : ℕ → ℕ → ℕ → ActorScript
-client n k i = record { node = record { 0 = k }; commands = client_commands n k i }
+client n k i = acting (record { 0 = k }) (client_commands n k i)
 
 -- the eight clients of link k
 abbrev pub clients : ℕ → ℕ → List ActorScript

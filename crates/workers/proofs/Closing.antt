@@ -27,7 +27,7 @@ use Rattle.linx_api.specs.Telling.{PlanParts, made_steps, maker_number, numbered
 use Rattle.stage.specs.declared.player.Player.{Player}
 use Rattle.stage.specs.Plays.{IsPlanned}
 use Rattle.stage.specs.Seats.{AreSeated, IsSeated, IsStaged}
-use Rattle.stage.specs.Turns.{commands_of, is_over, makers, shape_of}
+use Rattle.stage.specs.Turns.{part_of, is_over, makers, shape_of}
 use Rattle.workers.specs.declared.worker.Job.{Job}
 use Rattle.workers.specs.declared.worker.Worked.{Worked}
 use Rattle.workers.specs.declared.worker.End.TheVariants.{Finished}
@@ -360,14 +360,14 @@ module _ (script : ScriptParts) (all : List Worked) (count : length all ≡ make
       where
         followed : (o : Option Player) → IsPlayedBy script (seen w.pass) (suc i) o
             → suc i ≤ length script.actors
-            → Follows (commands_of script (suc i)) (suc i) (seen w.pass)
+            → Follows (part_of script (suc i)) (suc i) (seen w.pass)
         followed None behind actor = absurd (omega arith)
         followed (Some player) played actor =
             turned (has_ended (seen w.pass) (suc i)) player played.1
           where
             turned : (b : Bool) (q : Player)
-                → IsTurned (commands_of script (suc i)) (suc i) (seen w.pass) q.mind q.me b
-                → Follows (commands_of script (suc i)) (suc i) (seen w.pass)
+                → IsTurned (part_of script (suc i)) (suc i) (seen w.pass) q.mind q.me b
+                → Follows (part_of script (suc i)) (suc i) (seen w.pass)
             turned true q whole = whole.0
             turned false q playing = playing.follows
 

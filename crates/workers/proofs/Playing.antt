@@ -1,18 +1,18 @@
 -- One turn of a worker: what it may ask for under the lock, and what it knows after.
-use Rattle.std.proofs.Common.{◌≡◌, ℕ, ◌≤◌, Bool, true, false, cond, List, length, Some, None}
+use Rattle.std.proofs.Common.{◌≡◌, ℕ, ◌≤◌, Bool, true, false, List, length, Some, None}
 use Rattle.std.proofs.Common.{refl, sym, ◌∙◌, ap, subst, inl, inr}
 use Rattle.journal.specs.declared.by.By.TheVariants.{Actor}
 use Rattle.journal.specs.declared.effect.Step.{Step}
 use Rattle.journal.specs.History.{has_ended}
 use Rattle.journal.specs.Logs.{is_full}
 use Rattle.node_kernel.specs.declared.ask.Ask.{Ask}
-use Rattle.actor_run.specs.Asking.{handed, lends}
 use Rattle.actor_run.specs.Following.{IsTurned, Playing, next_ask}
-use Rattle.actor_run.specs.Knowing.{Knows}
+use Rattle.actor_run.specs.Minds.{IsWithin, handed}
+use Rattle.actor_run.proofs.Minds.{handed_within}
 use Rattle.actor_run.proofs.Others.{GoesOn, has_ended_goes_on}
 use Rattle.script_lang.specs.Fits.{IsScript}
 use Rattle.script_lang.specs.Parts.{ScriptParts}
-use Rattle.script_words.specs.declared.command.Command.{Command}
+use Rattle.script_lang.specs.declared.actor_script.ActorScript.{ActorScript}
 use Rattle.turn_lock.specs.Passes.{PassView}
 use Rattle.turn_lock.specs.Stories.{RestsFor}
 use Rattle.fabric.specs.declared.stop.StopCause.{StopCause}
@@ -25,7 +25,7 @@ use Rattle.stage.specs.declared.acting.Acted.TheVariants.{Done, Halfway, Stopped
 use Rattle.stage.specs.declared.player.Player.{Player}
 use Rattle.stage.specs.Seats.{IsSeated, Learns}
 use Rattle.stage.specs.Settlings.{IsActedAs}
-use Rattle.stage.specs.Turns.{commands_of}
+use Rattle.stage.specs.Turns.{part_of}
 use Rattle.stage.proofs.Rounds.Stops.{stops-full}
 use Rattle.stage.proofs.Actors.Turns.{turn-asks, turn-learned}
 use Rattle.workers.specs.Turning.{Asks, IsActedIn, IsRightlyFull, stop_of}
@@ -39,8 +39,8 @@ use Rattle.workers.proofs.Turning.{acted-working}
 module _ (script : ScriptParts) (declared : IsScript script) (p : PassView Step PlanParts)
     (ask : Ask) (asks : Asks script p ask) (f : Layout) (plan : plan_of f ≡ p.fixed)
     (rests : RestsFor p.number (story_of f) p.front) where
-  abbrev commands : List Command
-  commands = commands_of script p.number
+  abbrev part : ActorScript
+  part = part_of script p.number
 
   abbrev player : Player
   player = asks.player
@@ -54,9 +54,9 @@ module _ (script : ScriptParts) (declared : IsScript script) (p : PassView Step 
   found-runs : has_ended f.log.steps p.number ≡ false
   found-runs = has_ended_goes_on p.number f.log.steps (seen p) found-on ∙ asks.running
 
-  pub found-playing : Playing commands p.number f.log.steps player.mind player.me
+  pub found-playing : Playing part p.number f.log.steps player.mind player.me
   found-playing =
-      subst (λ (b : Bool). IsTurned commands p.number f.log.steps player.mind player.me b)
+      subst (λ (b : Bool). IsTurned part p.number f.log.steps player.mind player.me b)
       found-runs (found-played script p (Some player) asks.working f plan rests).1
 
   pub found-within : p.number ≤ length script.actors
@@ -70,14 +70,14 @@ module _ (script : ScriptParts) (declared : IsScript script) (p : PassView Step 
       found-within player.mind player.me found-playing ask asks.is
 
   -- which is what its script asks for next
-  pub found-next : ask ≡ next_ask commands p.number f.log.steps
+  pub found-next : ask ≡ next_ask part p.number f.log.steps
   found-next = asks.is ∙ (rw (found-playing.known, found-playing.mine) refl)
 
   -- IT IS SEATED AFTER what came, as it learns of it
   pub found-seated : (new : Layout) (acted : Acted) → IsActedAs f new p.number ask acted
       → (handed_player next : Player)
-      → handed_player.mind ≡ handed commands player.mind player.me
-      → handed_player.me ≡ player.me → Learns commands handed_player acted next
+      → handed_player.mind ≡ handed part player.mind player.me
+      → handed_player.me ≡ player.me → Learns part handed_player acted next
       → IsSeated script new.log.steps p.number next
   found-seated =
       turn-learned script declared f
@@ -91,8 +91,8 @@ pub acted-knows : (script : ScriptParts) (declared : IsScript script) → IsOneS
     (acted : Acted) (ended : Bool) → IsActedIn before ask acted ended after
     → (given next : Player)
     → given.mind
-    ≡ handed (commands_of script before.number) asks.player.mind asks.player.me
-    → given.me ≡ asks.player.me → Learns (commands_of script before.number) given acted next
+    ≡ handed (part_of script before.number) asks.player.mind asks.player.me
+    → given.me ≡ asks.player.me → Learns (part_of script before.number) given acted next
     → IsWorking script after (Some next)
 acted-knows script declared one before after ask asks acted ended turn given next mind me learns =
     subst (λ (q : PassView Step PlanParts). IsWorking script q (Some next)) (sym turn.turn.same)
@@ -161,25 +161,17 @@ acted-full before after ask acted ended turn met =
 -- between two turns an actor that hasn't ended plays
 pub seat-playing : (script : ScriptParts) (p : PassView Step PlanParts) (player : Player)
     → IsWorking script p (Some player) → has_ended (seen p) p.number ≡ false
-    → Playing (commands_of script p.number) p.number (seen p) player.mind player.me
+    → Playing (part_of script p.number) p.number (seen p) player.mind player.me
 seat-playing script p player working running =
     subst (λ (b : Bool).
-    IsTurned (commands_of script p.number) p.number (seen p) player.mind player.me b) running
+    IsTurned (part_of script p.number) p.number (seen p) player.mind player.me b) running
     working.played.1
 
--- lending says nothing of the place
-lent-place : (b : Bool) (k : Knows)
-    → (cond b (record k { held = None; lent = true }) k).place ≡ k.place
-lent-place true k = refl
-lent-place false k = refl
-
--- and it is within its commands, as it is once the signal is handed over
+-- and it is within its part, as it is once the signal is handed over
 pub seat-within : (script : ScriptParts) (p : PassView Step PlanParts) (player : Player)
     → IsWorking script p (Some player) → has_ended (seen p) p.number ≡ false
-    → (handed (commands_of script p.number) player.mind player.me).place
-    ≤ length (commands_of script p.number)
+    → IsWithin (part_of script p.number)
+    (handed (part_of script p.number) player.mind player.me)
 seat-within script p player working running =
-    let playing = seat-playing script p player working running in
-    let commands = commands_of script p.number in
-    subst (λ (place : ℕ). place ≤ length commands)
-    (sym (lent-place (lends commands player.mind player.me) player.mind)) playing.within
+    handed_within (part_of script p.number) player.mind player.me
+    (seat-playing script p player working running).within

@@ -36,7 +36,7 @@ use Rattle.stage.specs.Plays.{IsInTurn, IsPlannedHead}
 use Rattle.stage.specs.Pumps.{pump_event}
 use Rattle.stage.specs.Settlings.{AreSettlings, IsActedAs, Settler, settler, settler_in}
 use Rattle.stage.specs.Settlings.{settler_now}
-use Rattle.stage.specs.Turns.{IsPump, asks_nothing, commands_of, makes_event, shape_of}
+use Rattle.stage.specs.Turns.{IsPump, asks_nothing, part_of, makes_event, shape_of}
 use Rattle.stage.proofs.Actors.Going.{GoesFar, begun-under, done-far, half-far, settle-made}
 use Rattle.stage.proofs.Actors.Going.{settles-there}
 use Rattle.stage.proofs.Actors.Steps.{head-unpumped}
@@ -103,7 +103,7 @@ module _ (script : ScriptParts) (one-state : IsOneState script) (n : ℕ) where
         calm
 
     -- an actor's step
-    known-turned : (k : ℕ) (ask : Ask) → ask ≡ next_ask (commands_of script k) k old.log.steps
+    known-turned : (k : ℕ) (ask : Ask) → ask ≡ next_ask (part_of script k) k old.log.steps
         → (answer : StepAnswer) → IsStepped old new (Actor k) ask answer → IsKnown new
     known-turned k ask is answer made =
         known-step_for old new fixed (Actor k) _ answer
@@ -111,7 +111,7 @@ module _ (script : ScriptParts) (one-state : IsOneState script) (n : ℕ) where
         (λ head it.
         let unpumped : is_pumped head ≡ false =
         head-unpumped old.shape old.log.steps
-        (no_link_stirs old.shape old.log.steps (trunks_of old.trunks)) k (commands_of script k) head
+        (no_link_stirs old.shape old.log.steps (trunks_of old.trunks)) k (part_of script k) head
         it in
         record {
           planned = unpumped-planned script old.log.steps (trunks_of old.trunks) head unpumped;
@@ -179,7 +179,7 @@ module _ (script : ScriptParts) (one-state : IsOneState script) (n : ℕ) where
 
   -- AN ACTOR'S TURN, as far as it goes
   known-far : (old new : Layout) → settler_in old ≡ None → IsKnown old → (k : ℕ) (ask : Ask)
-      → ask ≡ next_ask (commands_of script k) k old.log.steps → MayAsk old (Actor k) ask
+      → ask ≡ next_ask (part_of script k) k old.log.steps → MayAsk old (Actor k) ask
       → (answer : StepAnswer) → GoesFar old new k ask answer → IsKnown new
   known-far old new calm known k ask is may answer far =
       elim far.rest [
@@ -200,7 +200,7 @@ module _ (script : ScriptParts) (one-state : IsOneState script) (n : ℕ) where
 
   -- WHAT CAME OF WHAT AN ACTOR ASKED FOR
   pub known-acted : (old new : Layout) → settler_in old ≡ None → IsKnown old → (k : ℕ) (ask : Ask)
-      → ask ≡ next_ask (commands_of script k) k old.log.steps → MayAsk old (Actor k) ask
+      → ask ≡ next_ask (part_of script k) k old.log.steps → MayAsk old (Actor k) ask
       → (acted : Acted) → IsActedAs old new k ask acted → IsKnown new
   known-acted old new calm known k ask is may (Done answer) came =
       known-far old new calm known k ask is may answer (done-far old new k ask answer came)
@@ -313,7 +313,7 @@ module _ (script : ScriptParts) (one-state : IsOneState script) (p : PassView St
 
   -- AFTER AN ACTOR'S TURN
   pub acted-working : (new : Layout) (k : ℕ) → p.number ≡ k → settler_in old ≡ None → (ask : Ask)
-      → ask ≡ next_ask (commands_of script k) k old.log.steps → MayAsk old (Actor k) ask
+      → ask ≡ next_ask (part_of script k) k old.log.steps → MayAsk old (Actor k) ask
       → (acted : Acted) → IsActedAs old new k ask acted → (next : Option Player)
       → IsPlayedBy script new.log.steps p.number next
       → IsWorking script (having_seen p new) next

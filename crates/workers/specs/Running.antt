@@ -11,7 +11,7 @@ use Rattle.fabric.specs.declared.stop.StopCause.{StopCause}
 use Rattle.fabric.specs.Run.{Layout}
 use Rattle.linx_api.specs.Telling.{PlanParts, story_of}
 use Rattle.stage.specs.declared.player.Player.{Player}
-use Rattle.stage.specs.Turns.{AreRounds, IsStoppedRun, commands_of, makers}
+use Rattle.stage.specs.Turns.{AreRounds, IsStoppedRun, part_of, makers}
 use Rattle.workers.specs.declared.ran.WorkedRun.{WorkedRun}
 use Rattle.workers.specs.declared.worker.End.TheVariants.{Finished}
 use Rattle.workers.specs.declared.worker.Job.{Job}
@@ -42,7 +42,7 @@ AreFinished (w ∷ rest) = (w.end ≡ Finished) × AreFinished rest
 
 -- THE SHARE OF MAKER n in a run: its pass has seen a front of the journal, to which this maker has
 -- added nothing since; the steps that it made are those of the pass; each is as planned, and an
--- actor's are the first of its commands
+-- actor's are the first of its part
 pub record IsShare (script : ScriptParts) (f : Layout) (n : ℕ) (p : PassView Step PlanParts)
     : Type 0 where
   pub number : p.number ≡ n
@@ -50,7 +50,7 @@ pub record IsShare (script : ScriptParts) (f : Layout) (n : ℕ) (p : PassView S
   pub front : RestsFor n (story_of f) p.front
   pub own : made_by n (story_of f) ≡ own_steps p
   pub planned : OwnPlanned script n (seen p)
-  pub follows : n ≤ length script.actors → Follows (commands_of script n) n (seen p)
+  pub follows : n ≤ length script.actors → Follows (part_of script n) n (seen p)
 
 -- EACH MAKER'S SHARE, by its number: no step of the run is of anybody else
 pub record AreShares (script : ScriptParts) (f : Layout) (passes : List (PassView Step PlanParts))

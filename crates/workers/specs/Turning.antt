@@ -6,7 +6,7 @@ use Rattle.journal.specs.declared.effect.Step.{Step}
 use Rattle.journal.specs.History.{has_ended}
 use Rattle.journal.specs.Logs.{is_full}
 use Rattle.node_kernel.specs.declared.ask.Ask.{Ask}
-use Rattle.actor_run.specs.Asking.{asked_by}
+use Rattle.actor_run.specs.Minds.{asked_by}
 use Rattle.script_lang.specs.Parts.{ScriptParts}
 use Rattle.turn_lock.specs.Passes.{PassView}
 use Rattle.turn_lock.specs.Stories.{RestsFor}
@@ -23,7 +23,7 @@ use Rattle.stage.specs.declared.stage.Pump.{Pump}
 use Rattle.stage.specs.declared.stage.Turn.{Turn}
 use Rattle.stage.specs.Settlings.{IsActedAs, settler_in, stirs_in}
 use Rattle.stage.specs.Stops.{IsCauseOf}
-use Rattle.stage.specs.Turns.{IsPump, commands_of, turn_by}
+use Rattle.stage.specs.Turns.{IsPump, part_of, turn_by}
 use Rattle.workers.specs.declared.worker.Turned.{Turned}
 use Rattle.workers.specs.declared.worker.Turned.TheVariants as turns
 use Rattle.workers.specs.Working.{IsWorking, seen}
@@ -50,7 +50,7 @@ pub record Asks (script : ScriptParts) (p : PassView Step PlanParts) (ask : Ask)
   pub player : Player
   pub working : IsWorking script p (Some player)
   pub running : has_ended (seen p) p.number ≡ false
-  pub is : ask ≡ asked_by (commands_of script p.number) player.mind player.me
+  pub is : ask ≡ asked_by (part_of script p.number) player.mind player.me
 
 -- what it asked for came to this, and it has ended or not
 pub record IsActedIn (before : PassView Step PlanParts) (ask : Ask) (acted : Acted) (ended : Bool)

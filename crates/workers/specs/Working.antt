@@ -47,7 +47,7 @@ abbrev pub IsPlayedBy : ScriptParts → List Step → ℕ → Option Player → 
 IsPlayedBy script P n (Some player) = (n ≤ length script.actors) × IsSeated script P n player
 IsPlayedBy script P n None = length script.actors < n
 
--- what a worker knows between two turns: its maker's steps are as planned, and follow its commands
+-- what a worker knows between two turns: its maker's steps are as planned, and follow its part
 -- where it is an actor
 pub record IsWorking (script : ScriptParts) (p : PassView Step PlanParts) (player : Option Player)
     : Type 0 where

@@ -240,8 +240,8 @@ fn turn_of<R: Wait>(
     ensures full { IsRightlyFull result.0 (stop_in result.1) }
 {
     runs_reach_one_state();
-    let commands = actor_of(script, pass.number());
-    let Ok(ask) = player.mind.next(alloc, commands, player.me) else {
+    let part = actor_of(script, pass.number());
+    let Ok(ask) = player.mind.next(alloc, part, player.me) else {
         let pass = note_no_memory(rt, lock, script, pass, player);
         bells.ring_all();
         return (pass, Turned::Done(Some(StopCause::NoMemory)));
@@ -253,7 +253,7 @@ fn turn_of<R: Wait>(
         rings,
     } = turn;
     bells.ring(rings);
-    let came = player.learn(commands, acted);
+    let came = player.learn(part, acted);
     (pass, turned_by(came, ended))
 }
 

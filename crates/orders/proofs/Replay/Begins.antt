@@ -34,7 +34,7 @@ use Rattle.stage.specs.Plays.{AllFollow, IsInTurn}
 use Rattle.stage.specs.Settlings.{GoesOnAfter, Settler, if_stirs, leaves_cut, settled_by, settler}
 use Rattle.stage.specs.Settlings.{settler_by, settles_none}
 use Rattle.stage.specs.Turns.{IsPump, IsTurnBy, IsTurnOf, acts_next, asked_next, came_of}
-use Rattle.stage.specs.Turns.{commands_of, makes_event, shape_of}
+use Rattle.stage.specs.Turns.{part_of, makes_event, shape_of}
 use Rattle.stage.specs.declared.stage.Pump.TheVariants.{Moved}
 use Rattle.stage.proofs.Actors.Going.{begun-runs, begun-settled, begun-under, settle-made}
 use Rattle.stage.proofs.Actors.Going.{settles_it}
@@ -129,7 +129,7 @@ module _ (script : ScriptParts) (declared : IsScript script) (rule : Rule) (P : 
         subst (λ (o : Option Settler). IsInTurn script P (trunks_of old) o (Actor k) head) was.calm
         next.planned.in_turn
 
-    asked : IsAskedStep (commands_of script k) k P (step_of (Actor k) head es)
+    asked : IsAskedStep (part_of script k) k P (step_of (Actor k) head es)
     asked =
         let mine : (k == k) ≡ true = eq-eqb k k refl in
         next.asked k maker.0 within (rw (mine, unpumped) refl)

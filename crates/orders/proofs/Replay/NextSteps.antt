@@ -17,7 +17,7 @@ use Rattle.fabric.specs.Links.{no_link_stirs}
 use Rattle.fabric.specs.Machine.{head_for}
 use Rattle.fabric.specs.Run.{IsReached, IsReachedBy, Layout}
 use Rattle.stage.specs.Plays.{AllFollow, IsPlannedStep, IsScriptRun, IsScriptStep}
-use Rattle.stage.specs.Turns.{commands_of, shape_of}
+use Rattle.stage.specs.Turns.{part_of, shape_of}
 use Rattle.stage.proofs.Actors.Going.{not_full}
 use Rattle.stage.proofs.Plans.PlannedAlike.{planned-same}
 use Rattle.stage.proofs.Plans.SameTrunks.{still_alike}
@@ -67,7 +67,7 @@ module _ (script : ScriptParts) where
     pub planned : IsPlannedStep script P (trunks_of old) s
     pub asked :
         (k : ℕ) → 0 < k → k ≤ length script.actors → is_own s k ≡ true
-        → IsAskedStep (commands_of script k) k P s
+        → IsAskedStep (part_of script k) k P s
     pub reached : IsReachedBy (state script (s ∷ P) new)
 
   pub next-step : (P : List Step) (s : Step) (before after : RunTrunks) (old new : List TrunkState)

@@ -28,11 +28,13 @@ use Rattle.script_words.specs.declared.command.Command.TheVariants.{Send, Forwar
 use Rattle.script_words.specs.declared.command.Command.TheVariants.{Hunt, Attach, Detach}
 use Rattle.script_words.specs.declared.command.Command.TheVariants.{Cut, Mend, Restart}
 use Rattle.script_words.specs.declared.command.Command.TheVariants.{Settle}
+use Rattle.script_words.specs.declared.relay_decl.RelayDecl.{RelayDecl}
+use Rattle.script_words.specs.Declaration.{leaves_room_for_hop}
 use Rattle.script_words.specs.Filling.{data_of, fits_data}
 use Rattle.script_words.specs.Numbers.{is_within}
 use Rattle.script_lang.specs.declared.actor_script.ActorScript.{ActorScript}
-use Rattle.script_lang.specs.Fits.{fits_actor, fits_command, fits_path, is_link, is_node, joins}
-use Rattle.script_lang.specs.Fits.{IsScript}
+use Rattle.script_lang.specs.Fits.{fits_actor, fits_command, fits_kind, fits_path, is_link}
+use Rattle.script_lang.specs.Fits.{IsScript, is_node, joins}
 use Rattle.script_lang.specs.Parts.{ScriptParts}
 use Rattle.node_kernel.specs.declared.ask.Ask.{Ask}
 use Rattle.node_kernel.specs.Answers.{is_pump_event}
@@ -41,11 +43,18 @@ use Rattle.actor_run.specs.Asking.{peer_named, signal_of}
 use Rattle.actor_run.specs.Bindings.{lookup}
 use Rattle.actor_run.specs.Following.{knows, next_ask}
 use Rattle.actor_run.specs.Knowing.{Knows}
+use Rattle.actor_run.specs.Minds.{asked_by, declared_ask}
+use Rattle.actor_run.specs.declared.mind.Mind.{Mind}
+use Rattle.actor_run.specs.declared.mind.Mind.TheVariants.{OfCommands, OfRelay}
+use Rattle.relay_steps.specs.declared.phase.Phase.{Phase}
+use Rattle.relay_steps.specs.declared.phase.Phase.TheVariants.{AttachingClient, AttachingFar}
+use Rattle.relay_steps.specs.declared.phase.Phase.TheVariants.{Hunting, Passing}
+use Rattle.relay_steps.specs.Phases.{passed_on, relay_asks}
 use Rattle.fabric.specs.Asks.{FitsEvent, MayAsk}
 use Rattle.fabric.specs.Fits.{LeavesBy}
 use Rattle.fabric.specs.Machine.{hands_over, signal_in}
 use Rattle.fabric.specs.Run.{Layout}
-use Rattle.stage.specs.Turns.{commands_in, commands_of, shape_of}
+use Rattle.stage.specs.Turns.{no_part, part_in, part_of, shape_of}
 
 -- WHATEVER A COMMAND ASKS FOR has a signal in hand exactly where it hands one over, and is no
 -- pump's
@@ -78,17 +87,32 @@ asks-actors k me (Some (Attach to r number bytes)) =
 asks-actors k me (Some (Detach r)) = actors-detach (lookup k.refs r)
 asks-actors k me c = record { handed = refl; unpumped = refl }
 
+-- and so does a phase of a relay
+passes-actors : (to : Peer) (signal : Option SigNote) → IsActors (passed_on to signal)
+passes-actors to None = record { handed = refl; unpumped = refl }
+passes-actors to (Some signal) = record { handed = refl; unpumped = refl }
+
+phase-actors : (decl : RelayDecl) (phase : Phase) → IsActors (relay_asks decl phase)
+phase-actors decl (Passing ends to signal) = passes-actors to signal
+phase-actors decl _ = record { handed = refl; unpumped = refl }
+
+declared-actors : (relay : Option RelayDecl) (phase : Phase) → IsActors (declared_ask relay phase)
+declared-actors None phase = record { handed = refl; unpumped = refl }
+declared-actors (Some decl) phase = phase-actors decl phase
+
+mind-actors : (part : ActorScript) (mind : Mind) (me : Option Inc)
+    → IsActors (asked_by part mind me)
+mind-actors part (OfCommands k) me = asks-actors k me (slice_get part.commands k.place)
+mind-actors part (OfRelay r) me = declared-actors part.relay r.phase
+
 -- what an actor asks for next does
-pub next-actors : (commands : List Command) (k : ℕ) (P : List Step)
-    → IsActors (next_ask commands k P)
-next-actors commands k P =
-    let mind : Knows = knows commands k P in
-    asks-actors mind (last_endpoint P k) (slice_get commands mind.place)
+pub next-actors : (part : ActorScript) (k : ℕ) (P : List Step) → IsActors (next_ask part k P)
+next-actors part k P = mind-actors part (knows part k P) (last_endpoint P k)
 
 pub next-handed : (s : ScriptParts) → IsScript s → (P : List Step) (k : ℕ)
-    → is_some (next_ask (commands_of s k) k P).hand
-    ≡ hands_over (next_ask (commands_of s k) k P).event
-next-handed s script P k = (next-actors (commands_of s k) k P).handed
+    → is_some (next_ask (part_of s k) k P).hand
+    ≡ hands_over (next_ask (part_of s k) k P).event
+next-handed s script P k = (next-actors (part_of s k) k P).handed
 
 -- the bounds of a number that is within them
 pub within_bounds : (low high n : ℕ) → is_within low high n ≡ true → (low ≤ n) × (n ≤ high)
@@ -126,7 +150,7 @@ FitsIf s node (Some c) = fits_command s node c ≡ true
 
 -- WHAT A COMMAND ASKS FOR is there
 module _ (s : ScriptParts) (script : IsScript s) (f : Layout) (shape : f.shape ≡ shape_of s)
-    (names : f.log.names ≡ s.names) (node : NodeNo) (k : Knows) (me : Option Inc) where
+    (names : f.log.names ≡ s.names) (node : NodeNo) where
   -- on the node
   abbrev Fits : Ask → Type 0
   Fits ask = FitsEvent f node.0 ask.event (signal_in ask.hand)
@@ -178,21 +202,44 @@ module _ (s : ScriptParts) (script : IsScript s) (f : Layout) (shape : f.shape �
   fit-detach None = tt
   fit-detach (Some r) = tt
 
-  asks-fit : (c : Option Command) → FitsIf s node c → Fits (ask_of k me c)
-  asks-fit (Some (Send to number bytes)) fits =
+  asks-fit : (k : Knows) (me : Option Inc) (c : Option Command) → FitsIf s node c
+      → Fits (ask_of k me c)
+  asks-fit k me (Some (Send to number bytes)) fits =
       fit-send (peer_named k me to) (signal_of number (data_of bytes))
-  asks-fit (Some (Forward to)) fits = fit-forward k.held (peer_named k me to)
-  asks-fit (Some (Hunt path number bytes)) fits =
+  asks-fit k me (Some (Forward to)) fits = fit-forward k.held (peer_named k me to)
+  asks-fit k me (Some (Hunt path number bytes)) fits =
       path-leaves path (and_parts (fits_path s node path) (fits_data 65532 bytes) fits).0
-  asks-fit (Some (Attach to r number bytes)) fits =
+  asks-fit k me (Some (Attach to r number bytes)) fits =
       fit-attach (peer_named k me to) (signal_of number (data_of bytes))
       (below_one (length (data_of bytes)) 65531 fits)
-  asks-fit (Some (Detach r)) fits = fit-detach (lookup k.refs r)
-  asks-fit (Some (Cut l)) fits = link-declared l fits
-  asks-fit (Some (Mend l)) fits = link-declared l fits
-  asks-fit (Some (Restart n)) fits = node-declared n fits
-  asks-fit (Some (Settle l)) fits = link-declared l fits
-  asks-fit _ fits = tt
+  asks-fit k me (Some (Detach r)) fits = fit-detach (lookup k.refs r)
+  asks-fit k me (Some (Cut l)) fits = link-declared l fits
+  asks-fit k me (Some (Mend l)) fits = link-declared l fits
+  asks-fit k me (Some (Restart n)) fits = node-declared n fits
+  asks-fit k me (Some (Settle l)) fits = link-declared l fits
+  asks-fit k me _ fits = tt
+
+  -- what a phase of a relay asks for too
+  phase-fits : (decl : RelayDecl) → fits_path s node decl.path ≡ true → (phase : Phase)
+      → Fits (relay_asks decl phase)
+  phase-fits decl leaves Hunting = path-leaves decl.path leaves
+  phase-fits decl leaves (AttachingFar far) = omega arith
+  phase-fits decl leaves (AttachingClient far client signal) = omega arith
+  phase-fits decl leaves (Passing ends to None) = tt
+  phase-fits decl leaves (Passing ends to (Some signal)) = tt
+  phase-fits decl leaves _ = tt
+
+  declared-fits : (relay : Option RelayDecl) → fits_kind s node relay ≡ true → (phase : Phase)
+      → Fits (declared_ask relay phase)
+  declared-fits None kind phase = tt
+  declared-fits (Some decl) kind phase =
+      phase-fits decl
+      (and_parts (leaves_room_for_hop decl.endpoint) (fits_path s node decl.path) kind).1 phase
+
+-- WHAT A PART OF THE SCRIPT NEEDS of its node
+record FitsPart (s : ScriptParts) (part : ActorScript) : Type 0 where
+  pub commands : (place : ℕ) → FitsIf s part.node (slice_get part.commands place)
+  pub kind : fits_kind s part.node part.relay ≡ true
 
 -- each of the commands fits
 fits_at : (s : ScriptParts) (node : NodeNo) (commands : List Command) (place : ℕ)
@@ -205,30 +252,43 @@ fits_at s node (c ∷ rest) (suc place) all =
     fits_at s node rest place
     (and_parts (fits_command s node c) (list_all (fits_command s node) rest) all).1
 
--- the node of an actor, if there is one
-abbrev node_in : Option ActorScript → NodeNo
-node_in None = record { 0 = 0 }
-node_in (Some a) = a.node
+nobody-fits : (s : ScriptParts) → FitsPart s no_part
+nobody-fits s = record {
+  commands = λ place. fits_at s (record { 0 = 0 }) [] place refl;
+  kind = refl;
+}
 
 -- of the actors of a script
-commands-fit : (s : ScriptParts) (actors : List ActorScript) (n place : ℕ)
-    → list_all (fits_actor s) actors ≡ true
-    → FitsIf s (node_in (slice_get actors n)) (slice_get (commands_in (slice_get actors n)) place)
-commands-fit s [] zero zero all = tt
-commands-fit s [] zero (suc place) all = tt
-commands-fit s [] (suc n) zero all = tt
-commands-fit s [] (suc n) (suc place) all = tt
-commands-fit s (a ∷ rest) zero place all =
+part-fits : (s : ScriptParts) (actors : List ActorScript) (n : ℕ)
+    → list_all (fits_actor s) actors ≡ true → FitsPart s (part_in (slice_get actors n))
+part-fits s [] zero all = nobody-fits s
+part-fits s [] (suc n) all = nobody-fits s
+part-fits s (a ∷ rest) zero all =
     let fits = (and_parts (fits_actor s a) (list_all (fits_actor s) rest) all).0 in
-    let sized : Bool = is_node s a.node && nat_le (length a.commands) 20000 in
-    fits_at s a.node a.commands place
-    (and_parts sized (list_all (fits_command s a.node) a.commands) fits).1
-commands-fit s (a ∷ rest) (suc n) place all =
-    commands-fit s rest n place (and_parts (fits_actor s a) (list_all (fits_actor s) rest) all).1
+    let each : Bool = list_all (fits_command s a.node) a.commands in
+    let kind : Bool = fits_kind s a.node a.relay in
+    let sized : Bool = nat_le (length a.commands) 20000 in
+    let placed = and_parts (is_node s a.node) (sized && (each && kind)) fits in
+    let both = and_parts each kind (and_parts sized (each && kind) placed.1).1 in
+    record { commands = λ place. fits_at s a.node a.commands place both.0; kind = both.1 }
+part-fits s (a ∷ rest) (suc n) all =
+    part-fits s rest n (and_parts (fits_actor s a) (list_all (fits_actor s) rest) all).1
+
+-- what its actor asks for fits
+module _ (s : ScriptParts) (script : IsScript s) (f : Layout) (shape : f.shape ≡ shape_of s)
+    (names : f.log.names ≡ s.names) (part : ActorScript) (fits : FitsPart s part) where
+  mind-fits : (mind : Mind) (me : Option Inc)
+      → FitsEvent f part.node.0 (asked_by part mind me).event
+      (signal_in (asked_by part mind me).hand)
+  mind-fits (OfCommands k) me =
+      asks-fit s script f shape names part.node k me (slice_get part.commands k.place)
+      (fits.commands k.place)
+  mind-fits (OfRelay r) me =
+      declared-fits s script f shape names part.node part.relay fits.kind r.phase
 
 -- the shape has the nodes of the actors
 node-same : (actors : List ActorScript) (n : ℕ)
-    → number_or_0 (slice_get (map (λ a. a.node) actors) n) ≡ (node_in (slice_get actors n)).0
+    → number_or_0 (slice_get (map (λ a. a.node) actors) n) ≡ (part_in (slice_get actors n)).node.0
 node-same [] zero = refl
 node-same [] (suc n) = refl
 node-same (a ∷ rest) zero = refl
@@ -238,13 +298,13 @@ node-same (a ∷ rest) (suc n) = node-same rest n
 pub may_ask : (s : ScriptParts) → IsScript s → (f : Layout) → f.shape ≡ shape_of s
     → f.log.names ≡ s.names → (k : ℕ) → 0 < k → k ≤ length s.actors
     → has_ended f.log.steps k ≡ false
-    → MayAsk f (Actor k) (next_ask (commands_of s k) k f.log.steps)
+    → MayAsk f (Actor k) (next_ask (part_of s k) k f.log.steps)
 may_ask s script f shape names zero above within running = absurd (omega arith)
 may_ask s script f shape names (suc n) above within running =
     let P : List Step = f.log.steps in
-    let ask : Ask = next_ask (commands_of s (suc n)) (suc n) P in
-    let mind : Knows = knows (commands_of s (suc n)) (suc n) P in
-    let home : node_by f.shape (Actor (suc n)) ≡ (node_in (slice_get s.actors n)).0 =
+    let ask : Ask = next_ask (part_of s (suc n)) (suc n) P in
+    let part : ActorScript = part_in (slice_get s.actors n) in
+    let home : node_by f.shape (Actor (suc n)) ≡ part.node.0 =
     ap (λ (x : Shape). node_by x (Actor (suc n))) shape ∙ node-same s.actors n in
     let count : length f.shape.actors ≡ length s.actors =
     ap (λ (x : Shape). length x.actors) shape ∙ length-map s.actors (λ a. a.node) in
@@ -253,7 +313,6 @@ may_ask s script f shape names (suc n) above within running =
       may = refl;
       handed = next-handed s script P (suc n);
       fits = subst (λ (node : ℕ). FitsEvent f node ask.event (signal_in ask.hand)) (sym home)
-          (asks-fit s script f shape names (node_in (slice_get s.actors n)) mind
-          (last_endpoint P (suc n)) (slice_get (commands_of s (suc n)) mind.place)
-          (commands-fit s s.actors n mind.place script.each_actor));
+          (mind-fits s script f shape names part (part-fits s s.actors n script.each_actor)
+          (knows part (suc n) P) (last_endpoint P (suc n)));
     }

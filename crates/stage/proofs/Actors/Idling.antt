@@ -1,7 +1,7 @@
 -- An actor that has ended, or waits in vain and isn't at rest, makes no step in its turn.
 use Rattle.std.proofs.Common.{◌≡◌, ℕ, ◌+◌, ◌<◌, ◌≤◌, Bool, true, false, List, length, Option, Some}
 use Rattle.std.proofs.Common.{None, is_none, refl, sym, ◌∙◌, ap, subst, arith, not, ◌&&◌, ◌||◌}
-use Rattle.std.proofs.Common.{◌==◌, nat_lt, slice_get, le-leb, le-ltb, ne_eqb, true≢false}
+use Rattle.std.proofs.Common.{◌==◌, nat_lt, le-leb, le-ltb, ne_eqb, true≢false}
 use Rattle.std.proofs.Math.Bool.{and-false}
 use Rattle.std.proofs.lemmas.Bool.{and_parts}
 use Rattle.std.proofs.lemmas.List.{length-map}
@@ -22,10 +22,7 @@ use Rattle.node_kernel.specs.declared.answers.StepAnswer.TheVariants.{NotYet}
 use Rattle.node_kernel.specs.declared.ask.Ask.{Ask}
 use Rattle.run_trunks.specs.States.{trunks_of}
 use Rattle.script_lang.specs.Parts.{ScriptParts}
-use Rattle.script_words.specs.declared.command.Command.{Command}
-use Rattle.script_words.specs.declared.command.Command.TheVariants.{Recv}
-use Rattle.actor_run.specs.Asking.{ask_of}
-use Rattle.actor_run.specs.Following.{Follows, knows, next_ask}
+use Rattle.actor_run.specs.Following.{Follows, next_ask}
 use Rattle.fabric.specs.Links.{no_link_stirs}
 use Rattle.fabric.specs.Machine.{head_for, is_at_rest}
 use Rattle.fabric.specs.Run.{IsStepFor, Layout}
@@ -35,7 +32,7 @@ use Rattle.stage.specs.declared.stage.Turn.TheVariants.{Ended, Waits}
 use Rattle.stage.specs.Settlings.{GoesOnAfter, settled_by, settles_none}
 use Rattle.stage.specs.Plays.{AllFollow, Play}
 use Rattle.stage.specs.Turns.{IsActed, IsBehind, IsTurn, IsTurnBy, IsTurnOf, acts_next, asked_next}
-use Rattle.stage.specs.Turns.{ended_before, commands_of, shape_of}
+use Rattle.stage.specs.Turns.{ended_before, part_of, shape_of}
 use Rattle.stage.proofs.Actors.Waiting.{waits_at}
 
 pub not_true : (b : Bool) → not b ≡ true → b ≡ false
@@ -47,7 +44,7 @@ none_selected None is = refl
 none_selected (Some item) is = absurd (true≢false (sym is))
 
 module _ (script : ScriptParts) (f : Layout) (k : ℕ)
-    (follows : Follows (commands_of script k) k f.log.steps) where
+    (follows : Follows (part_of script k) k f.log.steps) where
   abbrev P : List Step
   P = f.log.steps
 
@@ -57,17 +54,13 @@ module _ (script : ScriptParts) (f : Layout) (k : ℕ)
   -- its head, by what it waits with and where
   no_head : (w : Option Sigsel) (me : Option Inc) → waits_with P k ≡ w → endpoint_of P k ≡ me
       → waits_in_vain P w me ≡ true → (is_at_rest f.shape P k && still) ≡ false
-      → head_for f.shape P still (Actor k) (next_ask (commands_of script k) k P) ≡ None
+      → head_for f.shape P still (Actor k) (next_ask (part_of script k) k P) ≡ None
   no_head None me waits at vain busy = absurd (true≢false (sym vain))
   no_head (Some filter) None waits at vain busy = absurd (true≢false (sym vain))
   no_head (Some filter) (Some i) waits at vain busy =
-      let stands : slice_get (commands_of script k) (knows (commands_of script k) k P).place
-      ≡ Some (Recv filter) =
-      waits_at (commands_of script k) k P follows filter waits in
-      let asked : next_ask (commands_of script k) k P
+      let asked : next_ask (part_of script k) k P
       ≡ record { event = asks.Look filter; hand = None } =
-      ap (λ (c : Option Command).
-      ask_of (knows (commands_of script k) k P) (last_endpoint P k) c) stands in
+      waits_at (part_of script k) k P follows filter waits (last_endpoint P k) in
       let none : first_selected filter (queued P i) ≡ None =
       none_selected (first_selected filter (queued P i)) vain in
       rw (asked, at, none, busy, waits) refl
@@ -83,9 +76,7 @@ module _ (script : ScriptParts) (f : Layout) (k : ℕ)
   looks None me waits at vain = absurd (true≢false (sym vain))
   looks (Some filter) me waits at vain =
       no_settle filter
-      (ap (λ (c : Option Command).
-      ask_of (knows (commands_of script k) k P) (last_endpoint P k) c)
-      (waits_at (commands_of script k) k P follows filter waits))
+      (waits_at (part_of script k) k P follows filter waits (last_endpoint P k))
 
   -- IT WAITS ON
   pub idle-turn : is_idle P k ≡ true → (is_at_rest f.shape P k && still) ≡ false
@@ -157,7 +148,7 @@ module _ (script : ScriptParts) (f : Layout) (k : ℕ) (within : k ≤ length sc
   ended-passed ended =
       turn_of-actor Ended (ended_before ended refl refl)
 
-  pub waiting-passed : Follows (commands_of script k) k f.log.steps
+  pub waiting-passed : Follows (part_of script k) k f.log.steps
       → has_ended f.log.steps k ≡ false
       → (is_idle f.log.steps k
       && not (is_at_rest f.shape f.log.steps k

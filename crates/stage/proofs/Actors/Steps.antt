@@ -33,7 +33,7 @@ use Rattle.node_kernel.specs.declared.ask.Ask.{Ask}
 use Rattle.node_kernel.specs.Answers.{answer_of, asks_to_open, event_of, granted, granted_by}
 use Rattle.node_kernel.specs.Answers.{is_end_event, is_pump_event, is_pumped, is_waits, named}
 use Rattle.node_kernel.specs.Answers.{needs_endpoint, opened_as, refused}
-use Rattle.script_words.specs.declared.command.Command.{Command}
+use Rattle.script_lang.specs.declared.actor_script.ActorScript.{ActorScript}
 use Rattle.actor_run.specs.Asking.{is_sending}
 use Rattle.actor_run.specs.Following.{endpoint_after, next_ask}
 use Rattle.actor_run.proofs.Turns.{MakesAsked}
@@ -266,12 +266,12 @@ module _ (shape : Shape) (P : List Step) (still : Bool) (k : ℕ) (ask : Ask)
 
 -- WHAT AN ACTOR ASKS FOR NEXT makes no step of a pump
 pub head-unpumped : (shape : Shape) (P : List Step) (still : Bool) (k : ℕ)
-    (commands : List Command) (head : Head)
-    → head_for shape P still (Actor k) (next_ask commands k P) ≡ Some head
+    (part : ActorScript) (head : Head)
+    → head_for shape P still (Actor k) (next_ask part k P) ≡ Some head
     → is_pumped head ≡ false
-head-unpumped shape P still k commands head is =
-    let ask : Ask = next_ask commands k P in
-    let asks = next-actors commands k P in
+head-unpumped shape P still k part head is =
+    let ask : Ask = next_ask part k P in
+    let asks = next-actors part k P in
     ap (λ (a : Ask). is_pump_event a.event) (head-is shape P still k ask asks.handed head is).names
     ∙ granted_unpumped (endpoint_of P k) (closed_step P k) ask asks.unpumped
 

@@ -5,15 +5,15 @@ use Rattle.linx_base.specs.declared.identity.Inc.{Inc}
 use Rattle.linx_base.specs.SigNotes.{SigNote}
 use Rattle.journal.specs.declared.by.By.TheVariants.{Actor}
 use Rattle.journal.specs.declared.effect.Step.{Step}
-use Rattle.script_words.specs.declared.command.Command.{Command}
+use Rattle.script_lang.specs.declared.actor_script.ActorScript.{ActorScript}
 use Rattle.script_lang.specs.Fits.{IsScript}
 use Rattle.script_lang.specs.Parts.{ScriptParts}
 use Rattle.node_kernel.specs.declared.answers.StepAnswer.{StepAnswer}
 use Rattle.node_kernel.specs.declared.ask.Ask.{Ask}
 use Rattle.node_kernel.specs.Answers.{is_end_event}
-use Rattle.actor_run.specs.Asking.{asked_by, handed}
+use Rattle.actor_run.specs.declared.mind.Mind.{Mind}
 use Rattle.actor_run.specs.Following.{IsTurned, endpoint_after, next_ask, Playing}
-use Rattle.actor_run.specs.Knowing.{Knows, stopped_with, told}
+use Rattle.actor_run.specs.Minds.{asked_by, handed, stopped_with, told}
 use Rattle.actor_run.proofs.Turns.{MakesAsked, stopped_same, turned}
 use Rattle.fabric.specs.Asks.{MayAsk}
 use Rattle.fabric.specs.Machine.{hands_over}
@@ -25,7 +25,7 @@ use Rattle.stage.specs.declared.stage.Turn.{Turn}
 use Rattle.stage.specs.Seats.{IsSeated, Learns}
 use Rattle.stage.specs.Settlings.{IsActedAs, IsDone, IsHalfDone}
 use Rattle.stage.specs.Stops.{IsCauseOf}
-use Rattle.stage.specs.Turns.{IsActed, IsTurnStopped, came_of, commands_of, shape_of, turn_by}
+use Rattle.stage.specs.Turns.{IsActed, IsTurnStopped, came_of, part_of, shape_of, turn_by}
 use Rattle.stage.proofs.Actors.Asks.{may_ask, next-handed}
 use Rattle.stage.proofs.Actors.Going.{GoesFar, begun-calm, begun-runs, done-far, half-far}
 use Rattle.stage.proofs.Actors.Going.{settle-made}
@@ -33,18 +33,18 @@ use Rattle.stage.proofs.Actors.Steps.{makes}
 use Rattle.stage.proofs.Rounds.PlayersBetweenTurns.{settlings-playing}
 use Rattle.stage.proofs.Rounds.Seats.{turned-seated}
 
-asked-next : (commands : List Command) (k : ℕ) (P : List Step) (mind : Knows)
-    (me : Option Inc) → Playing commands k P mind me
-    → asked_by commands mind me ≡ next_ask commands k P
-asked-next commands k P mind me playing = rw (playing.known, playing.mine) refl
+asked-next : (part : ActorScript) (k : ℕ) (P : List Step) (mind : Mind)
+    (me : Option Inc) → Playing part k P mind me
+    → asked_by part mind me ≡ next_ask part k P
+asked-next part k P mind me playing = rw (playing.known, playing.mine) refl
 
 module _ (script : ScriptParts) (declared : IsScript script) (old : Layout)
     (shape : old.shape ≡ shape_of script) (names : old.log.names ≡ script.names) (k : ℕ)
-    (above : 0 < k) (within : k ≤ length script.actors) (mind : Knows) (me : Option Inc)
-    (playing : Playing (commands_of script k) k old.log.steps mind me) (ask : Ask)
-    (is : ask ≡ asked_by (commands_of script k) mind me) where
-  ask-next : ask ≡ next_ask (commands_of script k) k old.log.steps
-  ask-next = is ∙ asked-next (commands_of script k) k old.log.steps mind me playing
+    (above : 0 < k) (within : k ≤ length script.actors) (mind : Mind) (me : Option Inc)
+    (playing : Playing (part_of script k) k old.log.steps mind me) (ask : Ask)
+    (is : ask ≡ asked_by (part_of script k) mind me) where
+  ask-next : ask ≡ next_ask (part_of script k) k old.log.steps
+  ask-next = is ∙ asked-next (part_of script k) k old.log.steps mind me playing
 
   -- IT MAY ASK for what it asks
   pub turn-asks : MayAsk old (Actor k) ask
@@ -69,26 +69,26 @@ module _ (script : ScriptParts) (declared : IsScript script) (old : Layout)
   -- WHAT ITS STEP LEAVES
   step-seated : (new : Layout) (answer : StepAnswer)
       → IsStepped old new (Actor k) ask answer → (player : Player)
-      → player.mind ≡ told (commands_of script k) (handed (commands_of script k) mind me) answer
+      → player.mind ≡ told (part_of script k) (handed (part_of script k) mind me) answer
       → player.me ≡ endpoint_after me answer → IsSeated script new.log.steps k player
   step-seated new answer stepped player mind_is me_is =
       let P : List Step = old.log.steps in
-      let commands : List Command = commands_of script k in
+      let part : ActorScript = part_of script k in
       let handed_is : is_some ask.hand ≡ hands_over ask.event =
       subst (λ (a : Ask). is_some a.hand ≡ hands_over a.event) (sym ask-next)
       (next-handed script declared P k) in
-      let made : MakesAsked P k (asked_by commands mind me) answer new.log.steps =
+      let made : MakesAsked P k (asked_by part mind me) answer new.log.steps =
       subst (λ (a : Ask). MakesAsked P k a answer new.log.steps) is
       (makes old new k ask answer handed_is stepped) in
-      let over = is_end_event (asked_by commands mind me).event in
+      let over = is_end_event (asked_by part mind me).event in
       turned-seated script new.log.steps k player over
       (rw (mind_is, me_is)
-      (turned commands k P new.log.steps mind me answer over playing refl made))
+      (turned part k P new.log.steps mind me answer over playing refl made))
 
   -- WHAT IT LEAVES, as far as it goes
   pub turn-seated : (new : Layout) (answer : StepAnswer) → GoesFar old new k ask answer
       → (player : Player)
-      → player.mind ≡ told (commands_of script k) (handed (commands_of script k) mind me) answer
+      → player.mind ≡ told (part_of script k) (handed (part_of script k) mind me) answer
       → player.me ≡ endpoint_after me answer → IsSeated script new.log.steps k player
   turn-seated new answer far player mind_is me_is =
       let first : IsSeated script far.between.log.steps k player =
@@ -99,9 +99,9 @@ module _ (script : ScriptParts) (declared : IsScript script) (old : Layout)
             let step = settle-made old far.between k ask answer on.link on.asked far.stepped in
             let runs = begun-runs old far.between k on.link answer step playing.running in
             turned-seated script new.log.steps k player false
-            (settlings-playing (commands_of script k) k on.link player.mind player.me on.steps
+            (settlings-playing (part_of script k) k on.link player.mind player.me on.steps
             far.between new on.made (begun-calm old far.between k on.link answer step)
-            (subst (λ (b : Bool). IsTurned (commands_of script k) k far.between.log.steps
+            (subst (λ (b : Bool). IsTurned (part_of script k) k far.between.log.steps
             player.mind player.me b) runs first))
       ]
 
@@ -114,11 +114,11 @@ module _ (script : ScriptParts) (declared : IsScript script) (old : Layout)
 
   -- the buffer is back
   pub turn-back : (hand : Option SigNote) → hand ≡ ask.hand
-      → stopped_with (handed (commands_of script k) mind me) hand ≡ mind
+      → stopped_with (handed (part_of script k) mind me) hand ≡ mind
   turn-back hand back =
-      ap (stopped_with (handed (commands_of script k) mind me))
+      ap (stopped_with (handed (part_of script k) mind me))
       (back ∙ ap (λ (a : Ask). a.hand) is)
-      ∙ stopped_same (commands_of script k) k old.log.steps mind me playing
+      ∙ stopped_same (part_of script k) k old.log.steps mind me playing
 
   -- WHAT IT MADE of its turn
   pub turn-came : (new : Layout) (acted : Acted) → IsActedAs old new k ask acted
@@ -143,8 +143,8 @@ module _ (script : ScriptParts) (declared : IsScript script) (old : Layout)
 
   -- WHAT A TURN LEAVES, once the player learned what came of it
   pub turn-learned : (new : Layout) (acted : Acted) → IsActedAs old new k ask acted
-      → (given next : Player) → given.mind ≡ handed (commands_of script k) mind me
-      → given.me ≡ me → Learns (commands_of script k) given acted next
+      → (given next : Player) → given.mind ≡ handed (part_of script k) mind me
+      → given.me ≡ me → Learns (part_of script k) given acted next
       → IsSeated script new.log.steps k next
   turn-learned new (Done answer) came given next mind_is me_is learns =
       let next_mind = rw mind_is at learns.0 in

@@ -27,7 +27,7 @@ use Rattle.fabric.proofs.Standings.Counting.{all-fit}
 use Rattle.stage.specs.Plays.{IsInTurn, IsPlanned, IsPlannedHead}
 use Rattle.stage.specs.Pumps.{pump_event}
 use Rattle.stage.specs.Settlings.{AreSettlings, Settler, settler, settler_in, settler_now}
-use Rattle.stage.specs.Turns.{asked_next, commands_of, shape_of}
+use Rattle.stage.specs.Turns.{asked_next, part_of, shape_of}
 use Rattle.stage.proofs.Actors.Going.{GoesFar, SettlesOn, begun-under, settle-made, settles-there}
 use Rattle.stage.proofs.Rounds.LayingOut.{laid_out}
 use Rattle.stage.proofs.Actors.Steps.{head-unpumped}
@@ -91,14 +91,14 @@ module _ (script : ScriptParts) (old new : Layout) (shape : old.shape ≡ shape_
 
     -- an actor's turn begins so
     pub planned-turned : (k : ℕ) → (answer : StepAnswer)
-        → IsStepped old new (Actor k) (next_ask (commands_of script k) k P) answer
+        → IsStepped old new (Actor k) (next_ask (part_of script k) k P) answer
         → IsPlanned script P trunks
         → IsPlanned script new.log.steps (trunks_of new.trunks)
     planned-turned k answer made planned =
         planned-step_for (Actor k) _ answer made
         (λ head is.
         let unpumped : is_pumped head ≡ false =
-        head-unpumped old.shape P (no_link_stirs old.shape P trunks) k (commands_of script k) head is in
+        head-unpumped old.shape P (no_link_stirs old.shape P trunks) k (part_of script k) head is in
         record {
           planned = unpumped-planned script P trunks head unpumped;
           in_turn = subst (λ (o : Option Settler). IsInTurn script P trunks o (Actor k) head)

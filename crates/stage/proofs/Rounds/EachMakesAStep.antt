@@ -1,7 +1,7 @@
 -- A round after which not all is over makes a step.
 use Rattle.std.proofs.Common.{◌≡◌, ◌≢◌, ℕ, zero, suc, ◌+◌, ◌-◌, ◌<◌, ◌≤◌, ◌⊎◌, Bool, true, false}
 use Rattle.std.proofs.Common.{List, length, Option, Some, None, is_none, refl, sym, ◌∙◌, ap, subst}
-use Rattle.std.proofs.Common.{inl, inr, arith, ◌&&◌, ◌==◌, is_some, nat_le, slice_get, eq-eqb}
+use Rattle.std.proofs.Common.{inl, inr, arith, ◌&&◌, ◌==◌, is_some, nat_le, eq-eqb}
 use Rattle.std.proofs.Common.{le-leb, lt-ltb, true≢false}
 use Rattle.std.proofs.lemmas.List.{length-map}
 use Rattle.std.proofs.lemmas.Bool.{cases_lt, cases_order, lt-leb}
@@ -18,14 +18,12 @@ use Rattle.journal.specs.declared.head.Head.{Head}
 use Rattle.journal.specs.History.{closed_step, endpoint_of, has_ended, last_endpoint}
 use Rattle.journal.specs.Rest.{is_idle, leaves_at_rest, queue_of, waits_in_vain, waits_with}
 use Rattle.journal.specs.Shapes.{Shape}
-use Rattle.script_words.specs.declared.command.Command.{Command}
-use Rattle.script_words.specs.declared.command.Command.TheVariants.{Recv}
+use Rattle.script_lang.specs.declared.actor_script.ActorScript.{ActorScript}
 use Rattle.script_lang.specs.Parts.{ScriptParts}
 use Rattle.node_kernel.specs.declared.answers.StepAnswer.{StepAnswer}
 use Rattle.node_kernel.specs.declared.ask.Ask.{Ask}
 use Rattle.node_kernel.specs.Answers.{granted}
-use Rattle.actor_run.specs.Asking.{ask_of}
-use Rattle.actor_run.specs.Following.{knows, next_ask, Follows}
+use Rattle.actor_run.specs.Following.{next_ask, Follows}
 use Rattle.run_trunks.specs.States.{trunks_of}
 use Rattle.trunk_moves.specs.Trunks.{RunTrunks}
 use Rattle.fabric.specs.Links.{no_link_stirs, none_stirs, stirs}
@@ -38,7 +36,7 @@ use Rattle.stage.specs.Plays.{AllFollow}
 use Rattle.stage.specs.Pumps.{pump_event}
 use Rattle.stage.specs.Turns.{AreTurns, IsPump, IsRound, IsTurn, IsTurnBy, acts_next, asks_nothing}
 use Rattle.stage.specs.Turns.{ended_before, makes_event}
-use Rattle.stage.specs.Turns.{IsTurnOf, asked_next, commands_of, is_over, makers, shape_of}
+use Rattle.stage.specs.Turns.{IsTurnOf, asked_next, part_of, is_over, makers, shape_of}
 use Rattle.stage.specs.declared.stage.Pump as pumps
 use Rattle.stage.specs.declared.stage.Turn.{Turn}
 use Rattle.stage.proofs.Actors.Going.{done-far, done-still, far-grows, step-grows}
@@ -88,10 +86,10 @@ the_filter : (w : Option Sigsel) → is_some w ≡ true → (f : Sigsel) × (w �
 the_filter None is = absurd (true≢false (sym is))
 the_filter (Some f) is = (f, refl)
 
-module _ (shape : Shape) (P : List Step) (still : Bool) (k : ℕ) (commands : List Command)
-    (follows : Follows commands k P) where
+module _ (shape : Shape) (P : List Step) (still : Bool) (k : ℕ) (part : ActorScript)
+    (follows : Follows part k P) where
   abbrev ask : Ask
-  ask = next_ask commands k P
+  ask = next_ask part k P
 
   idle_as : (e : Option Inc) (w : Option Sigsel) (f : Sigsel) (i : Inc) → e ≡ Some i → w ≡ Some f
       → first_selected f (queue_of P e) ≡ None → waits_in_vain P w e ≡ true
@@ -108,10 +106,9 @@ module _ (shape : Shape) (P : List Step) (still : Bool) (k : ℕ) (commands : Li
       granted_look (endpoint_of P k) (closed_step P k) ask f vain.looks in
       let mine = granted_endpoint (endpoint_of P k) (closed_step P k) ask f vain.looks in
       let waits = the_filter (waits_with P k) vain.waits in
-      let at : slice_get commands (knows commands k P).place ≡ Some (Recv waits.0) =
-      waits_at commands k P follows waits.0 waits.1 in
       let again : ask.event ≡ asks.Look waits.0 =
-      ap (λ (c : Option Command). (ask_of (knows commands k P) (last_endpoint P k) c).event) at in
+      ap (λ (a : Ask). a.event)
+      (waits_at part k P follows waits.0 waits.1 (last_endpoint P k)) in
       let same : f ≡ waits.0 = look_filter (sym asked ∙ again) in
       record {
         idle = idle_as (endpoint_of P k) (waits_with P k) f mine.0 mine.1
@@ -242,8 +239,8 @@ module _ (script : ScriptParts) where
 module _ (script : ScriptParts) (f : Layout) (shape : f.shape ≡ shape_of script)
     (follows : AllFollow script f.log.steps)
     (handed : (k : ℕ) → 0 < k → k ≤ length script.actors
-    → is_some (next_ask (commands_of script k) k f.log.steps).hand
-    ≡ hands_over (next_ask (commands_of script k) k f.log.steps).event) where
+    → is_some (next_ask (part_of script k) k f.log.steps).hand
+    ≡ hands_over (next_ask (part_of script k) k f.log.steps).event) where
   abbrev P : List Step
   P = f.log.steps
 
@@ -262,10 +259,10 @@ module _ (script : ScriptParts) (f : Layout) (shape : f.shape ≡ shape_of scrip
   stuck-turn k above within turn running (ended_before ended same came) =
       absurd (true≢false (sym ended ∙ running))
   stuck-turn k above within turn running (acts_next so made) =
-      none-stuck f.shape P still k (commands_of script k) (follows k above within)
+      none-stuck f.shape P still k (part_of script k) (follows k above within)
       (handed k above within)
       (step-none f (Actor k)
-      (head_for f.shape P still (Actor k) (next_ask (commands_of script k) k P)) made.answer
+      (head_for f.shape P still (Actor k) (next_ask (part_of script k) k P)) made.answer
       (done-still f k (asked_next script k f) made.answer made.done))
 
   stuck-by : (k : ℕ) → 0 < k → k ≤ count → has_ended P k ≡ false → (actor : Bool)

@@ -10,7 +10,8 @@ use Rattle.linx_base.specs.declared.name.Names.{Names}
 use Rattle.script_words.specs.Declaration.{has_link_size}
 use Rattle.script_words.specs.Numbers.{is_within}
 use Rattle.script_lang.specs.declared.actor_script.ActorScript.{ActorScript}
-use Rattle.script_lang.specs.Fits.{fits_actor, fits_command, fits_link, is_link_shape, is_node}
+use Rattle.script_lang.specs.Fits.{fits_actor, fits_command, fits_kind, fits_link, is_link_shape}
+use Rattle.script_lang.specs.Fits.{is_node}
 use Rattle.script_lang.specs.Fits.{is_numbered, IsScript}
 use Rattle.script_lang.specs.Parts.{ScriptParts}
 use Rattle.fabric.specs.Remains.{IsLaidOut, IsLink, IsNode}
@@ -27,9 +28,10 @@ placed : (s : ScriptParts) (actors : List ActorScript) → list_all (fits_actor 
 placed s [] all = tt
 placed s (a ∷ rest) all =
     let parts = and_parts (fits_actor s a) (list_all (fits_actor s) rest) all in
-    let sized : Bool = is_node s a.node && nat_le (length a.commands) 20000 in
-    let both = and_parts sized (list_all (fits_command s a.node) a.commands) parts.0 in
-    let on = and_parts (is_node s a.node) (nat_le (length a.commands) 20000) both.0 in
+    let fits : Bool =
+    nat_le (length a.commands) 20000
+    && (list_all (fits_command s a.node) a.commands && fits_kind s a.node a.relay) in
+    let on = and_parts (is_node s a.node) fits parts.0 in
     (numbered-node (length s.names.nodes) a.node on.0, placed s rest parts.1)
 
 link-fits : (nodes : ℕ) (link : LinkDecl) → fits_link nodes link ≡ true → IsLink nodes link

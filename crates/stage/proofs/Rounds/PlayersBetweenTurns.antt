@@ -14,9 +14,10 @@ use Rattle.node_kernel.specs.Answers.{event_of}
 use Rattle.node_kernel.specs.declared.answers.StepAnswer.{StepAnswer}
 use Rattle.node_kernel.specs.declared.ask.Ask.{Ask}
 use Rattle.script_lang.specs.Parts.{ScriptParts}
-use Rattle.script_words.specs.declared.command.Command.{Command}
+use Rattle.script_lang.specs.declared.actor_script.ActorScript.{ActorScript}
 use Rattle.actor_run.specs.Following.{IsTurned, Playing, endpoint_after}
-use Rattle.actor_run.specs.Knowing.{Knows}
+use Rattle.actor_run.specs.Minds.{is_waiting}
+use Rattle.actor_run.specs.declared.mind.Mind.{Mind}
 use Rattle.actor_run.proofs.Others.{GoesOn, has_ended_goes_on, playing_goes_on, whole_goes_on}
 use Rattle.actor_run.proofs.Turns.{playing_pumped}
 use Rattle.fabric.specs.Actings.{asking}
@@ -24,7 +25,7 @@ use Rattle.fabric.specs.Run.{IsStepFor, Layout}
 use Rattle.stage.specs.declared.player.Player.{Player}
 use Rattle.stage.specs.Seats.{IsSeated}
 use Rattle.stage.specs.Settlings.{AreSettlings}
-use Rattle.stage.specs.Turns.{commands_of}
+use Rattle.stage.specs.Turns.{part_of}
 use Rattle.stage.proofs.Actors.Going.{GoesFar}
 use Rattle.stage.proofs.Actors.Steps.{step-opens}
 use Rattle.stage.proofs.Settling.Steps.{HasMoved, has-moved, move-done, move-pumped}
@@ -92,22 +93,22 @@ pub seated-other : (script : ScriptParts) (now before : List Step) (k : ℕ) (pl
     → GoesOn k now before → IsSeated script before k player → IsSeated script now k player
 seated-other script now before k player on seated =
     let ended : has_ended now k ≡ has_ended before k = has_ended_goes_on k now before on in
-    subst (λ (b : Bool). IsTurned (commands_of script k) k now player.mind player.me b) (sym ended)
+    subst (λ (b : Bool). IsTurned (part_of script k) k now player.mind player.me b) (sym ended)
     (go (has_ended before k) seated)
   where
-    go : (b : Bool) → IsTurned (commands_of script k) k before player.mind player.me b
-        → IsTurned (commands_of script k) k now player.mind player.me b
-    go true whole = whole_goes_on (commands_of script k) k now before on whole
+    go : (b : Bool) → IsTurned (part_of script k) k before player.mind player.me b
+        → IsTurned (part_of script k) k now player.mind player.me b
+    go true whole = whole_goes_on (part_of script k) k now before on whole
     go false playing =
-        playing_goes_on (commands_of script k) k now before player.mind player.me on playing
+        playing_goes_on (part_of script k) k now before player.mind player.me on playing
 
 -- AN ACTOR THAT SETTLES A LINK is between two turns after so many steps of it
-moved-playing : (commands : List Command) (k : ℕ) (l : LinkNo) (mind : Knows) (me : Option Inc)
-    (old new : Layout) → HasMoved (Actor k) l old new → mind.waiting ≡ false
-    → Playing commands k old.log.steps mind me → Playing commands k new.log.steps mind me
-moved-playing commands k l mind me old new moved calm playing =
-    subst (λ (P : List Step). Playing commands k P mind me) (sym moved.step.steps)
-    (playing_pumped commands k old.log.steps mind me
+moved-playing : (part : ActorScript) (k : ℕ) (l : LinkNo) (mind : Mind) (me : Option Inc)
+    (old new : Layout) → HasMoved (Actor k) l old new → is_waiting mind ≡ false
+    → Playing part k old.log.steps mind me → Playing part k new.log.steps mind me
+moved-playing part k l mind me old new moved calm playing =
+    subst (λ (P : List Step). Playing part k P mind me) (sym moved.step.steps)
+    (playing_pumped part k old.log.steps mind me
     (record { by = Actor k; head = moved.head; effects = moved.step.effects }) playing refl
     (move-pumped l moved.head moved.move)
     (λ m.
@@ -115,18 +116,18 @@ moved-playing commands k l mind me old new moved calm playing =
     ∙ ap (endpoint_after m) (moved.step.answered
     ∙ move-done l old.log.steps moved.step.effects moved.head moved.move)) calm)
 
-settlings-kept : (commands : List Command) (k : ℕ) (l : LinkNo) (mind : Knows) (me : Option Inc)
-    → mind.waiting ≡ false → (n : ℕ) (old new : Layout) → AreSettlings (Actor k) l n old new
-    → Playing commands k old.log.steps mind me → Playing commands k new.log.steps mind me
-settlings-kept commands k l mind me calm zero old new made playing =
-    subst (λ (f : Layout). Playing commands k f.log.steps mind me) (sym made) playing
-settlings-kept commands k l mind me calm (suc n) old new made playing =
-    moved-playing commands k l mind me made.0 new (has-moved (Actor k) l made.0 new made.1.1) calm
-    (settlings-kept commands k l mind me calm n old made.0 made.1.0 playing)
+settlings-kept : (part : ActorScript) (k : ℕ) (l : LinkNo) (mind : Mind) (me : Option Inc)
+    → is_waiting mind ≡ false → (n : ℕ) (old new : Layout) → AreSettlings (Actor k) l n old new
+    → Playing part k old.log.steps mind me → Playing part k new.log.steps mind me
+settlings-kept part k l mind me calm zero old new made playing =
+    subst (λ (f : Layout). Playing part k f.log.steps mind me) (sym made) playing
+settlings-kept part k l mind me calm (suc n) old new made playing =
+    moved-playing part k l mind me made.0 new (has-moved (Actor k) l made.0 new made.1.1) calm
+    (settlings-kept part k l mind me calm n old made.0 made.1.0 playing)
 
-pub settlings-playing : (commands : List Command) (k : ℕ) (l : LinkNo) (mind : Knows)
+pub settlings-playing : (part : ActorScript) (k : ℕ) (l : LinkNo) (mind : Mind)
     (me : Option Inc) (n : ℕ) (old new : Layout) → AreSettlings (Actor k) l n old new
-    → waits_with old.log.steps k ≡ None → Playing commands k old.log.steps mind me
-    → Playing commands k new.log.steps mind me
-settlings-playing commands k l mind me n old new made calm playing =
-    settlings-kept commands k l mind me (playing.waits ∙ ap is_some calm) n old new made playing
+    → waits_with old.log.steps k ≡ None → Playing part k old.log.steps mind me
+    → Playing part k new.log.steps mind me
+settlings-playing part k l mind me n old new made calm playing =
+    settlings-kept part k l mind me (playing.waits ∙ ap is_some calm) n old new made playing

@@ -25,7 +25,7 @@ use Rattle.trunk_moves.specs.Trunks.{links_of}
 use Rattle.script_lang.specs.Parts.{ScriptParts}
 use Rattle.node_kernel.specs.declared.answers.StepAnswer.{StepAnswer}
 use Rattle.actor_run.specs.Following.{Follows, IsTurned, Playing}
-use Rattle.actor_run.specs.Knowing.{knows_nothing}
+use Rattle.actor_run.specs.Minds.{knows_nothing}
 use Rattle.actor_run.proofs.Others.{GoesOn}
 use Rattle.actor_run.proofs.Turns.{playing_first}
 use Rattle.fabric.specs.Actings.{OnlyRuns}
@@ -46,7 +46,7 @@ use Rattle.stage.specs.Seats.{AreSeated, IsSeated, IsStaged, unstarted}
 use Rattle.stage.specs.Settlings.{Settler, if_stirs, settler_in, settler_of}
 use Rattle.stage.specs.Ready.{IsSomeReady, is_ready}
 use Rattle.stage.specs.Turns.{IsActed, IsPump, IsRound, IsTurnOf, IsTurnStopped, asked_next}
-use Rattle.stage.specs.Turns.{asks_nothing, commands_in, commands_of, first_layout, is_over}
+use Rattle.stage.specs.Turns.{asks_nothing, part_in, part_of, first_layout, is_over}
 use Rattle.stage.specs.Turns.{makes_event, shape_of}
 use Rattle.stage.proofs.Actors.Asks.{may_ask, next-handed}
 use Rattle.stage.proofs.Actors.Going.{GoesFar, done-far, half-far}
@@ -61,12 +61,12 @@ use Rattle.stage.proofs.Rounds.EachMakesAStep.{round-moves}
 -- BEFORE THE FIRST TURNS
 first_seated : (actors : List ActorScript) (n : ℕ) (player : Player)
     → slice_get (unstarted actors) n ≡ Some player
-    → Playing (commands_in (slice_get actors n)) (suc n) [] player.mind player.me
+    → Playing (part_in (slice_get actors n)) (suc n) [] player.mind player.me
 first_seated [] zero player is = cc
 first_seated [] (suc n) player is = cc
 first_seated (a ∷ actors) zero player is =
-    let same : record { mind = knows_nothing a.commands; me = None } ≡ player = inner is in
-    subst (λ (p : Player). Playing a.commands 1 [] p.mind p.me) same (playing_first a.commands 1)
+    let same : record { mind = knows_nothing a; me = None } ≡ player = inner is in
+    subst (λ (p : Player). Playing a 1 [] p.mind p.me) same (playing_first a 1)
   where
     inner : {p q : Player} → Some p ≡ Some q → p ≡ q
     inner e = cc
@@ -74,17 +74,17 @@ first_seated (a ∷ actors) (suc n) player is = step (first_seated_at actors n p
   where
     first_seated_at : (actors : List ActorScript) (n : ℕ) (player : Player)
         → slice_get (unstarted actors) n ≡ Some player
-        → player ≡ record { mind = knows_nothing (commands_in (slice_get actors n)); me = None }
+        → player ≡ record { mind = knows_nothing (part_in (slice_get actors n)); me = None }
     first_seated_at [] zero player is = cc
     first_seated_at [] (suc n) player is = cc
     first_seated_at (a ∷ actors) zero player is = cc
     first_seated_at (a ∷ actors) (suc n) player is = first_seated_at actors n player is
 
-    step : player ≡ record { mind = knows_nothing (commands_in (slice_get actors n)); me = None }
-        → Playing (commands_in (slice_get actors n)) (suc (suc n)) [] player.mind player.me
+    step : player ≡ record { mind = knows_nothing (part_in (slice_get actors n)); me = None }
+        → Playing (part_in (slice_get actors n)) (suc (suc n)) [] player.mind player.me
     step is = subst (λ (p : Player).
-        Playing (commands_in (slice_get actors n)) (suc (suc n)) [] p.mind p.me) (sym is)
-        (playing_first (commands_in (slice_get actors n)) (suc (suc n)))
+        Playing (part_in (slice_get actors n)) (suc (suc n)) [] p.mind p.me) (sym is)
+        (playing_first (part_in (slice_get actors n)) (suc (suc n)))
 
 pub unstarted-seated : (script : ScriptParts) → AreSeated script [] (unstarted script.actors)
 unstarted-seated script n player is = first_seated script.actors n player is
@@ -117,13 +117,13 @@ seated-set script now before players n player within seated on new m other is =
 
 -- whoever asked for its end has ended
 pub turned-seated : (script : ScriptParts) (now : List Step) (k : ℕ) (player : Player) (over : Bool)
-    → IsTurned (commands_of script k) k now player.mind player.me over
+    → IsTurned (part_of script k) k now player.mind player.me over
     → IsSeated script now k player
 turned-seated script now k player over turned =
-    subst (λ (b : Bool). IsTurned (commands_of script k) k now player.mind player.me b)
+    subst (λ (b : Bool). IsTurned (part_of script k) k now player.mind player.me b)
     (sym (ended over turned)) turned
   where
-    ended : (b : Bool) → IsTurned (commands_of script k) k now player.mind player.me b
+    ended : (b : Bool) → IsTurned (part_of script k) k now player.mind player.me b
         → has_ended now k ≡ b
     ended true whole = whole.1
     ended false playing = playing.running
@@ -144,8 +144,8 @@ module _ (script : ScriptParts) (P : List Step) (players : List Player)
       go (has_ended P (suc n)) seat.0 (seated n seat.0 seat.1)
     where
       go : (b : Bool) (player : Player)
-          → IsTurned (commands_of script (suc n)) (suc n) P player.mind player.me b
-          → Follows (commands_of script (suc n)) (suc n) P
+          → IsTurned (part_of script (suc n)) (suc n) P player.mind player.me b
+          → Follows (part_of script (suc n)) (suc n) P
       go true player whole = whole.0
       go false player playing = playing.follows
 
@@ -157,17 +157,17 @@ module _ (script : ScriptParts) (P : List Step) (players : List Player)
 pub seat-playing : (script : ScriptParts) (P : List Step) (players : List Player)
     → AreSeated script P players → (k : ℕ) → 0 < k → (player : Player)
     → slice_get players (k - 1) ≡ Some player → has_ended P k ≡ false
-    → Playing (commands_of script k) k P player.mind player.me
+    → Playing (part_of script k) k P player.mind player.me
 seat-playing script P players seated zero above player is running = absurd (omega arith)
 seat-playing script P players seated (suc n) above player is running =
     let place : suc n - 1 ≡ n = omega arith in
     let there : slice_get players n ≡ Some player = ap (slice_get players) (sym place) ∙ is in
     subst (λ (b : Bool).
-    IsTurned (commands_of script (suc n)) (suc n) P player.mind player.me b) running
+    IsTurned (part_of script (suc n)) (suc n) P player.mind player.me b) running
     (seated n player there)
 
 pub playing-seated : (script : ScriptParts) (P : List Step) (k : ℕ) (player : Player)
-    → Playing (commands_of script k) k P player.mind player.me → IsSeated script P k player
+    → Playing (part_of script k) k P player.mind player.me → IsSeated script P k player
 playing-seated script P k player playing = turned-seated script P k player false playing
 
 -- nobody settles a link where that would be refused

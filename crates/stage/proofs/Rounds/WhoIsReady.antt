@@ -18,7 +18,7 @@ use Rattle.stage.specs.Plays.{AllFollow}
 use Rattle.stage.specs.Pumps.{pump_event}
 use Rattle.stage.specs.Ready.{IsSomeReady, is_actor_ready, is_ready, is_ready_by, waits_on}
 use Rattle.stage.specs.Settlings.{stirs_in}
-use Rattle.stage.specs.Turns.{IsPump, IsTurnBy, IsTurnOf, asks_nothing, commands_of, is_over}
+use Rattle.stage.specs.Turns.{IsPump, IsTurnBy, IsTurnOf, asks_nothing, part_of, is_over}
 use Rattle.stage.specs.Turns.{makers, shape_of}
 use Rattle.stage.specs.declared.stage.Pump as pumps
 use Rattle.stage.specs.declared.stage.Pump.TheVariants.{NoWork}
@@ -103,8 +103,8 @@ module _ (script : ScriptParts) (f : Layout) (shape : f.shape ≡ shape_of scrip
 module _ (script : ScriptParts) (f : Layout) (shape : f.shape ≡ shape_of script)
     (follows : AllFollow script f.log.steps)
     (handed : (k : ℕ) → 0 < k → k ≤ length script.actors
-    → is_some (next_ask (commands_of script k) k f.log.steps).hand
-    ≡ hands_over (next_ask (commands_of script k) k f.log.steps).event) where
+    → is_some (next_ask (part_of script k) k f.log.steps).hand
+    ≡ hands_over (next_ask (part_of script k) k f.log.steps).event) where
   abbrev count : ℕ
   count = length script.actors
 

@@ -3,7 +3,7 @@ use Rattle.std.proofs.Common.{arith}
 use Rattle.journal.specs.History.{has_ended}
 use Rattle.actor_run.specs.Following.{Follows}
 use Rattle.stage.specs.Plays.{Play}
-use Rattle.stage.specs.Turns.{commands_of}
+use Rattle.stage.specs.Turns.{part_of}
 use Rattle.stage.proofs.Actors.Idling.{waiting-passed}
 use Rattle.stage.proofs.Rounds.Seats.{staged-follows}
 use Rattle.stage.proofs.Rounds.WholeRuns.{turns-more}
@@ -25,8 +25,8 @@ returns-clause-passed c =
     let low : k ≤ length s.script.actors = omega (arith, count, test, under) in
     let within : k ≤ length old.script.actors =
     subst (λ (p : Play). k ≤ length p.script.actors) c.self.view_is low in
-    let follows : Follows (commands_of old.script k) k old.run.log.steps =
-    subst (λ (p : Play). Follows (commands_of p.script k) k p.run.log.steps) c.self.view_is
+    let follows : Follows (part_of old.script k) k old.run.log.steps =
+    subst (λ (p : Play). Follows (part_of p.script k) k p.run.log.steps) c.self.view_is
     (staged-follows s.script s.fabric s.players.items c.self.invariant k above low) in
     let running : has_ended old.run.log.steps k ≡ false =
     c.first_left-first.ensures.left (omega (arith, within)) in

@@ -1,6 +1,6 @@
 use Rattle.std.proofs.Common.{◌+◌, sym, ◌∙◌, arith, ap}
 use Rattle.actor_run.specs.Knowing.{Knows}
-use Rattle.actor_run.proofs.mind.Mind.pass_keeps.Goals as goal
+use Rattle.actor_run.proofs.commanding.Commanding.pass_keeps.Goals as goal
 use Rattle.actor_run.proofs.Keeps.{keep_next, keep_off, none_taken}
 
 pub returns-in_default : goal.returns-in_default

@@ -1,6 +1,6 @@
 use Rattle.std.proofs.Common.{◌≡◌, ◌-◌, drop, length, Some}
 use Rattle.actor_run.specs.Knowing.{passed, past_keeps}
-use Rattle.actor_run.proofs.mind.Mind.pass_keeps.Given as goal
+use Rattle.actor_run.proofs.commanding.Commanding.pass_keeps.Given as goal
 
 -- the keeps that are left lead to the same
 abbrev pub invariant-loop-name : goal.invariant-loop-name
