@@ -12,7 +12,7 @@ use Rattle.relay_steps.specs.declared.phase.Ends.{Ends}
 use Rattle.relay_steps.specs.declared.phase.Phase.{Phase}
 use Rattle.relay_steps.specs.declared.phase.Phase.TheVariants.{Serving, AttachingClient, Passing}
 use Rattle.relay_steps.specs.declared.phase.Phase.TheVariants.{Closing, Ending}
-use Rattle.relay_steps.specs.Phases.{after, after_item, after_other, between, granted_after}
+use Rattle.relay_steps.specs.Phases.{after_item, after_other, between, granted_after}
 use Rattle.relay_steps.specs.Phases.{is_notice, is_refusal, passing, served}
 use Rattle.relay_steps.specs.Promises.{EndsWhenTold, IsPassedOnce, KeepsItsClient, PassesOnOnce}
 use Rattle.relay_steps.specs.Promises.{client_in}
