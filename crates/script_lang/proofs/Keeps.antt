@@ -1,5 +1,5 @@
 -- each new entry keeps a script within its limits
-use Rattle.std.proofs.Common.{◌≡◌, ℕ, suc, ◌+◌, ◌-◌, ◌<◌, ◌≤◌, true, false, not, ◌&&◌, zero, List}
+use Rattle.std.proofs.Common.{◌≡◌, ℕ, suc, ◌+◌, ◌-◌, ◌<◌, ◌≤◌, true, false, not, zero, List}
 use Rattle.std.proofs.Common.{[], ◌∷◌, ◌++◌, length, refl, ◌∙◌, arith, length-append, slice_get}
 use Rattle.std.proofs.Common.{bytes_eq, leb-true, le-leb, nat_le, Option, Some, None}
 use Rattle.std.specs.List.{list_all, list_any}
