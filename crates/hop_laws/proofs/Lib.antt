@@ -1,0 +1,4 @@
+mod Fronts
+mod Peers
+mod Chains
+mod Worked

@@ -1,0 +1,7 @@
+use Rattle.hop_laws.proofs.Fronts
+use Rattle.hop_laws.proofs.Peers
+use Rattle.hop_laws.proofs.Worked
+use Rattle.hop_laws.proofs.laws.chains_pass_on.Goals as goal
+
+pub returns : goal.returns
+returns c = ?

@@ -1,0 +1,4 @@
+use Rattle.hop_laws.proofs.laws.relays_pass_on.Goals as goal
+
+pub returns : goal.returns
+returns c = ?
