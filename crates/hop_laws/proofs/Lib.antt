@@ -1,4 +1,7 @@
 mod Fronts
 mod Peers
 mod Chains
+mod Known
+mod Origins
+mod Owners
 mod Worked

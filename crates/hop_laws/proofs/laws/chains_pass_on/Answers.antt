@@ -1,5 +1,3 @@
-use Rattle.hop_laws.proofs.Fronts
-use Rattle.hop_laws.proofs.Peers
 use Rattle.hop_laws.proofs.Worked
 use Rattle.hop_laws.proofs.laws.chains_pass_on.Goals as goal
 
