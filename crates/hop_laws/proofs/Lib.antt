@@ -4,4 +4,7 @@ mod Chains
 mod Known
 mod Origins
 mod Owners
+mod Arrivals
+mod Table
+mod Still
 mod Worked

@@ -1,3 +1,5 @@
+use Rattle.hop_laws.proofs.Still
+use Rattle.hop_laws.proofs.Arrivals
 use Rattle.hop_laws.proofs.Origins
 use Rattle.hop_laws.proofs.Owners
 use Rattle.hop_laws.proofs.laws.relays_pass_on.Goals as goal
