@@ -7,4 +7,6 @@ mod Owners
 mod Arrivals
 mod Table
 mod Still
+mod Heads
+mod Quiet
 mod Worked

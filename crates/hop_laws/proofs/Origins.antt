@@ -46,7 +46,7 @@ use Rattle.link_laws.specs.Ends.{node_at}
 use Rattle.link_laws.specs.Laws.{HasEffects, IsHandedOver, IsLegal, IsLegalStep, IsTick}
 use Rattle.link_laws.specs.Laws.{KeepsPackets, KeepsTicks, delivers, down_if, downs_of, loses}
 use Rattle.link_laws.specs.Laws.{stays}
-use Rattle.link_laws.proofs.Endpoints.Makers.{maker-home, maker-open}
+use Rattle.link_laws.proofs.Endpoints.Makers.{maker-open}
 use Rattle.link_laws.proofs.Endpoints.OpenAfterStep.{open-on}
 use Rattle.link_laws.proofs.Hunts.UnfoundPeers.{all-both, all-each}
 use Rattle.hop_laws.proofs.Known.{IsKnown, alive-known, found-known, known-later}
@@ -158,7 +158,8 @@ module _ (shape : Shape) (P : List Step) (s : Step) (legal : IsLegal shape P) (s
     hunted-rooted path note hunts None is = tt
     hunted-rooted path note hunts (Some q) is =
         let home : node ≡ node_of j =
-        sym (eqb-true (node_of j) node (maker-home shape P legal short s.by j me)) in (
+        sym (eqb-true (node_of j) node
+        (open-on P node j (maker-open shape P legal short s.by j me))) in (
           record {
             hunter = own j me hunts;
             peer = known-later s P (node_of j) q

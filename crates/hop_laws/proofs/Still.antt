@@ -64,7 +64,7 @@ pub record IsStill (a : ActorScript) (k : ℕ) (P : List Step) (s : Step) (e : I
   pub order : endpoint_by P s.by ≡ Some e → IsInOrder s.head
 
 -- nothing more
-more-none : (xs ys : List SigNote) (t : Bool) → (t ≡ true → ys ≡ []) → xs ++ cond t ys [] ≡ xs
+pub more-none : (xs ys : List SigNote) (t : Bool) → (t ≡ true → ys ≡ []) → xs ++ cond t ys [] ≡ xs
 more-none xs ys true none = ap (λ (l : List SigNote). xs ++ l) (none refl) ∙ append-nil xs
 more-none xs ys false none = append-nil xs
 

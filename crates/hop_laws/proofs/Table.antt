@@ -106,8 +106,9 @@ passes-on shape P r legal short passed = record {
 -- THE TABLE, for actor k on this node
 module _ (a : ActorScript) (k node : ℕ) where
   -- no client is served, and none was
-  abbrev pub ServesNone : List Step → Type 0
-  ServesNone P = served_last a k P ≡ None
+  pub record ServesNone (P : List Step) : Type 0 where
+    pub served : served_last a k P ≡ None
+    pub since : (z : Peer) → taken_since a k P z ≡ []
 
   -- an endpoint that has sent and taken nothing
   pub record IsFresh (P : List Step) (e : Inc) : Type 0 where

@@ -1,3 +1,5 @@
+use Rattle.hop_laws.proofs.Quiet
+use Rattle.hop_laws.proofs.Heads
 use Rattle.hop_laws.proofs.Still
 use Rattle.hop_laws.proofs.Arrivals
 use Rattle.hop_laws.proofs.Origins
