@@ -9,4 +9,5 @@ mod Table
 mod Still
 mod Heads
 mod Quiet
+mod Takings
 mod Worked

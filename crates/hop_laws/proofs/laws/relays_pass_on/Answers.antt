@@ -1,3 +1,4 @@
+use Rattle.hop_laws.proofs.Takings
 use Rattle.hop_laws.proofs.Quiet
 use Rattle.hop_laws.proofs.Heads
 use Rattle.hop_laws.proofs.Still
