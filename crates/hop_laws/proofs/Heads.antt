@@ -5,6 +5,7 @@ use Rattle.linx_base.specs.SigNotes.{SigNote}
 use Rattle.linx_base.specs.declared.identity.Inc.{Inc}
 use Rattle.linx_base.specs.declared.identity.ItemAt.{ItemAt}
 use Rattle.linx_base.specs.declared.identity.Peer.{Peer}
+use Rattle.linx_base.specs.declared.name.Path.{Path}
 use Rattle.sigsel.specs.declared.sigsel.Sigsel.{Sigsel}
 use Rattle.journal.specs.History.{closed_step, endpoint_of}
 use Rattle.journal.specs.declared.effect.Step.{Step}
@@ -45,6 +46,16 @@ pub attaches : (head : Head) (to : Peer) → event_of head ≡ asks.Attach to
 attaches (Attach q note) to is =
     let same : q ≡ to = cc in (note, ap (λ (p : Peer). Attach p note) same)
 attaches _ to is = absurd cc
+
+pub opens : (head : Head) (name : List ℕ) → event_of head ≡ asks.Open name → head ≡ Open name
+opens (Open other) name is = let same : other ≡ name = cc in ap Open same
+opens _ name is = absurd cc
+
+pub hunts : (head : Head) (path : Path) → event_of head ≡ asks.Hunt path
+    → (note : SigNote) × (head ≡ Hunt path note)
+hunts (Hunt other note) path is =
+    let same : other ≡ path = cc in (note, ap (λ (p : Path). Hunt p note) same)
+hunts _ path is = absurd cc
 
 pub closes : (head : Head) → event_of head ≡ asks.Close → head ≡ Close
 closes Close is = refl

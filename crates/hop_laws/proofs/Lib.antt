@@ -10,4 +10,6 @@ mod Still
 mod Heads
 mod Quiet
 mod Takings
+mod Relays
+mod Hops
 mod Worked
