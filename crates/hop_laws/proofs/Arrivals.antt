@@ -344,8 +344,11 @@ module _ (P : List Step) (s : Step) (j : Inc) (step : ℕ) where
       (cond_both (same_inc i j)
       (items_from (record { step = step; place = place }) (Arrived i p note)) []
       (AllByRecursion (IsOfKnown (s ∷ P) j))
-      (λ same. (λ plain. known-later s P (node_of j) p
-      (subst (λ (k : Inc). IsKnown P (node_of k) p) (same_inc-true i j same) rooted.0.sender), tt))
+      (λ same. (
+        λ plain. known-later s P (node_of j) p
+            (subst (λ (k : Inc). IsKnown P (node_of k) p) (same_inc-true i j same) rooted.0.sender),
+        tt,
+      ))
       (λ other. tt))
       (items-known (place + 1) es rooted.1)
   items-known place (Found i p note h ∷ es) rooted =
@@ -355,8 +358,11 @@ module _ (P : List Step) (s : Step) (j : Inc) (step : ℕ) where
       (cond_both (same_inc i j)
       (items_from (record { step = step; place = place }) (Found i p note h)) []
       (AllByRecursion (IsOfKnown (s ∷ P) j))
-      (λ same. (λ plain.
-      subst (λ (k : Inc). IsKnown (s ∷ P) (node_of k) p) (same_inc-true i j same) rooted.0.peer, tt))
+      (λ same. (
+        λ plain.
+            subst (λ (k : Inc). IsKnown (s ∷ P) (node_of k) p) (same_inc-true i j same) rooted.0.peer,
+        tt,
+      ))
       (λ other. tt))
       (items-known (place + 1) es rooted.1)
   items-known place (Notified i p note reference reason ∷ es) rooted =

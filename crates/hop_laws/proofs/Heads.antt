@@ -36,9 +36,11 @@ sends head to note is = go head (ap (λ (ask : Ask). ask.event) is) (ap (λ (ask
         → (answer : SentTo) × (h ≡ Send to note answer)
     go (Send q other answer) event hand =
         let same : q ≡ to = cc in
-        let one : other ≡ note = cc in
-        (answer, ap (λ (p : Peer). Send p other answer) same
-        ∙ ap (λ (n : SigNote). Send to n answer) one)
+        let one : other ≡ note = cc in (
+          answer,
+          ap (λ (p : Peer). Send p other answer) same
+              ∙ ap (λ (n : SigNote). Send to n answer) one,
+        )
     go _ event hand = absurd cc
 
 pub attaches : (head : Head) (to : Peer) → event_of head ≡ asks.Attach to

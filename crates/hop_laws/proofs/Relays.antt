@@ -289,7 +289,7 @@ module _ (shape : Shape) (a : ActorScript) (decl : RelayDecl) (is : a.relay ≡ 
         known = known-later s P node far was.1;
         each = λ j last.
             let fresh = fresh-quiet shape a decl is k P s legal short step
-                (quiet-as (Attach far note) head refl) was.2 j last in
+            (quiet-as (Attach far note) head refl) was.2 j last in
             record {
               sent = fresh.sent;
               taken = λ z other. fresh.taken z;

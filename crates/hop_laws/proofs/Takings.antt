@@ -168,76 +168,76 @@ module _ (shape : Shape) (a : ActorScript) (k : ℕ) (P : List Step) (s : Step)
   -- a send
   module _ (to : Peer) (note : SigNote) (answer : SentTo) (head : s.head ≡ Send to note answer)
     where
-    pub send-last : last_endpoint (s ∷ P) k ≡ last_endpoint P k
-    send-last = last-unopened (ap is_opening head)
+      pub send-last : last_endpoint (s ∷ P) k ≡ last_endpoint P k
+      send-last = last-unopened (ap is_opening head)
 
-    pub send-taken : (e : Inc) (z : Peer) → taken_from (s ∷ P) e z ≡ taken_from P e z
-    send-taken e z = more-none (taken_from P e z) (taken_by P z s.head)
-        (is_endpoint e (endpoint_by P s.by)) (λ own. ap (taken_by P z) head)
+      pub send-taken : (e : Inc) (z : Peer) → taken_from (s ∷ P) e z ≡ taken_from P e z
+      send-taken e z = more-none (taken_from P e z) (taken_by P z s.head)
+          (is_endpoint e (endpoint_by P s.by)) (λ own. ap (taken_by P z) head)
 
-    pub send-since : (z : Peer) → taken_since a k (s ∷ P) z ≡ taken_since a k P z
-    send-since z = more-none (taken_since a k P z) (taken_by P z s.head)
-        (is_by s.by k && has_client (knows a k P)) (λ own. ap (taken_by P z) head)
+      pub send-since : (z : Peer) → taken_since a k (s ∷ P) z ≡ taken_since a k P z
+      send-since z = more-none (taken_since a k P z) (taken_by P z s.head)
+          (is_by s.by k && has_client (knows a k P)) (λ own. ap (taken_by P z) head)
 
-    pub send-sent : (e : Inc) → last_endpoint P k ≡ Some e → (z : Peer)
-        → sent_to (s ∷ P) e z
-        ≡ sent_to P e z ++ cond (was_sent answer && same_peer to z) (note ∷ []) []
-    send-sent e last z =
-        ap (λ (b : Bool). sent_to P e z ++ cond b (sent_by z s.head) []) (mine e last)
-        ∙ ap (λ (h : Head). sent_to P e z ++ sent_by z h) head
+      pub send-sent : (e : Inc) → last_endpoint P k ≡ Some e → (z : Peer)
+          → sent_to (s ∷ P) e z
+          ≡ sent_to P e z ++ cond (was_sent answer && same_peer to z) (note ∷ []) []
+      send-sent e last z =
+          ap (λ (b : Bool). sent_to P e z ++ cond b (sent_by z s.head) []) (mine e last)
+          ∙ ap (λ (h : Head). sent_to P e z ++ sent_by z h) head
 
-    -- to another peer nothing goes
-    pub send-other : (e : Inc) → last_endpoint P k ≡ Some e → (z : Peer) → same_peer to z ≡ false
-        → sent_to (s ∷ P) e z ≡ sent_to P e z
-    send-other e last z other =
-        send-sent e last z
-        ∙ ap (λ (b : Bool). sent_to P e z ++ cond (was_sent answer && b) (note ∷ []) []) other
-        ∙ by_answer (was_sent answer)
-      where
-        by_answer : (t : Bool) → sent_to P e z ++ cond (t && false) (note ∷ []) [] ≡ sent_to P e z
-        by_answer true = append-nil (sent_to P e z)
-        by_answer false = append-nil (sent_to P e z)
+      -- to another peer nothing goes
+      pub send-other : (e : Inc) → last_endpoint P k ≡ Some e → (z : Peer) → same_peer to z ≡ false
+          → sent_to (s ∷ P) e z ≡ sent_to P e z
+      send-other e last z other =
+          send-sent e last z
+          ∙ ap (λ (b : Bool). sent_to P e z ++ cond (was_sent answer && b) (note ∷ []) []) other
+          ∙ by_answer (was_sent answer)
+        where
+          by_answer : (t : Bool) → sent_to P e z ++ cond (t && false) (note ∷ []) [] ≡ sent_to P e z
+          by_answer true = append-nil (sent_to P e z)
+          by_answer false = append-nil (sent_to P e z)
 
-    answered : answer ≡ send_answer (is_alive P node to) to
-    answered =
-        subst (λ (n : ℕ). answer ≡ send_answer (is_alive P n to) to)
-        (ap (node_by shape) (is_by-actor s.by k by))
-        (subst (λ (h : Head). KeepsSends P (node_by shape s.by) h) head step.nodes.sends)
+      answered : answer ≡ send_answer (is_alive P node to) to
+      answered =
+          subst (λ (n : ℕ). answer ≡ send_answer (is_alive P n to) to)
+          (ap (node_by shape) (is_by-actor s.by k by))
+          (subst (λ (h : Head). KeepsSends P (node_by shape s.by) h) head step.nodes.sends)
 
-    goes : (q : Peer) → was_sent (send_answer true q) ≡ true
-    goes (Here j) = refl
-    goes (There l x j) = refl
+      goes : (q : Peer) → was_sent (send_answer true q) ≡ true
+      goes (Here j) = refl
+      goes (There l x j) = refl
 
-    -- WHAT WAS HELD IS SENT, or its receiver is dead
-    pub send-on : (e : Inc) → last_endpoint P k ≡ Some e → IsKnown P node to
-        → (taken : List SigNote) → SendsOn P node e to taken (note ∷ [])
-        → SendsOn (s ∷ P) node e to taken []
-    send-on e last known taken before = by_life (is_alive P node to) refl before
-      where
-        sent : (t : Bool) → is_alive P node to ≡ t
-            → sent_to (s ∷ P) e to
-            ≡ sent_to P e to ++ cond (was_sent (send_answer t to) && true) (note ∷ []) []
-        sent t alive =
-            send-sent e last to
-            ∙ ap (λ (b : Bool). sent_to P e to ++ cond (was_sent answer && b) (note ∷ []) [])
-            (peer-itself to)
-            ∙ ap (λ (w : SentTo). sent_to P e to ++ cond (was_sent w && true) (note ∷ []) [])
-            (answered ∙ ap (λ (b : Bool). send_answer b to) alive)
+      -- WHAT WAS HELD IS SENT, or its receiver is dead
+      pub send-on : (e : Inc) → last_endpoint P k ≡ Some e → IsKnown P node to
+          → (taken : List SigNote) → SendsOn P node e to taken (note ∷ [])
+          → SendsOn (s ∷ P) node e to taken []
+      send-on e last known taken before = by_life (is_alive P node to) refl before
+        where
+          sent : (t : Bool) → is_alive P node to ≡ t
+              → sent_to (s ∷ P) e to
+              ≡ sent_to P e to ++ cond (was_sent (send_answer t to) && true) (note ∷ []) []
+          sent t alive =
+              send-sent e last to
+              ∙ ap (λ (b : Bool). sent_to P e to ++ cond (was_sent answer && b) (note ∷ []) [])
+              (peer-itself to)
+              ∙ ap (λ (w : SentTo). sent_to P e to ++ cond (was_sent w && true) (note ∷ []) [])
+              (answered ∙ ap (λ (b : Bool). send_answer b to) alive)
 
-        by_life : (t : Bool) → is_alive P node to ≡ t → SendsOn P node e to taken (note ∷ [])
-            → SendsOn (s ∷ P) node e to taken []
-        by_life true alive (all_of_it all) =
-            all_of_it (append-nil (sent_to (s ∷ P) e to) ∙ sent true alive
-            ∙ ap (λ (b : Bool). sent_to P e to ++ cond (b && true) (note ∷ []) []) (goes to) ∙ all)
-        by_life true alive (front_of_it dead front) = absurd (true≢false (sym alive ∙ dead))
-        by_life false dead before =
-            front_of_it (dead-later shape P s legal short step node to known dead)
-            (subst (λ (l : List SigNote). IsFront l taken)
-            (sym (sent false dead ∙ append-nil (sent_to P e to))) (front before))
-          where
-            front : SendsOn P node e to taken (note ∷ []) → IsFront (sent_to P e to) taken
-            front (all_of_it all) = (note ∷ [], sym all)
-            front (front_of_it gone is) = is
+          by_life : (t : Bool) → is_alive P node to ≡ t → SendsOn P node e to taken (note ∷ [])
+              → SendsOn (s ∷ P) node e to taken []
+          by_life true alive (all_of_it all) =
+              all_of_it (append-nil (sent_to (s ∷ P) e to) ∙ sent true alive
+              ∙ ap (λ (b : Bool). sent_to P e to ++ cond (b && true) (note ∷ []) []) (goes to) ∙ all)
+          by_life true alive (front_of_it dead front) = absurd (true≢false (sym alive ∙ dead))
+          by_life false dead before =
+              front_of_it (dead-later shape P s legal short step node to known dead)
+              (subst (λ (l : List SigNote). IsFront l taken)
+              (sym (sent false dead ∙ append-nil (sent_to P e to))) (front before))
+            where
+              front : SendsOn P node e to taken (note ∷ []) → IsFront (sent_to P e to) taken
+              front (all_of_it all) = (note ∷ [], sym all)
+              front (front_of_it gone is) = is
 
 -- WHAT IS TAKEN IS HELD
 module _ (shape : Shape) (P : List Step) (s : Step) (legal : IsLegal shape P) (short : IsShort P)
