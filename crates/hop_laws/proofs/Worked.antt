@@ -1,5 +1,6 @@
 -- A worked history of a relay on a node, between its far end and a client.
-use Rattle.std.proofs.Common.{◌≡◌, ℕ, List, [], ◌∷◌, Some, None, refl, codes}
+use Rattle.std.proofs.Common.{◌≡◌, ℕ, true, false, List, [], ◌∷◌, Some, None, refl, sym, ◌∙◌, codes}
+use Rattle.std.proofs.Common.{true≢false}
 use Rattle.linx_base.specs.Numbers.{inc_of}
 use Rattle.linx_base.specs.SigNotes.{SigNote}
 use Rattle.linx_base.specs.declared.identity.Inc.{Inc}
@@ -7,7 +8,7 @@ use Rattle.linx_base.specs.declared.identity.Peer.{Peer}
 use Rattle.linx_base.specs.declared.identity.Peer.TheVariants.{Here}
 use Rattle.linx_base.specs.declared.name.Path.TheVariants.{Local}
 use Rattle.sigsel.specs.declared.sigsel.Sigsel.TheVariants.{Any, Only}
-use Rattle.journal.specs.History.{last_endpoint}
+use Rattle.journal.specs.History.{has_ended, last_endpoint}
 use Rattle.journal.specs.Traffic.{arrived_from, sent_to}
 use Rattle.journal.specs.declared.effect.Effect.TheVariants.{Found}
 use Rattle.journal.specs.declared.effect.Step.{Step}
@@ -15,7 +16,9 @@ use Rattle.journal.specs.declared.head.Head.TheVariants.{Attach, Hunt}
 use Rattle.journal.proofs.Playing.{at, closes, first, made, note, opens, second, sends, takes, third}
 use Rattle.script_lang.specs.declared.actor_script.ActorScript.{ActorScript}
 use Rattle.relay_steps.specs.Phases.{between}
-use Rattle.hop_laws.specs.Hops.{Relaying, served_last, taken_since}
+use Rattle.node_kernel.specs.Answers.{granted, is_waits, named}
+use Rattle.actor_run.specs.Following.{Follows, IsAskedStep, is_own, next_ask}
+use Rattle.hop_laws.specs.Hops.{IsRelaying, Relaying, served_last, taken_since}
 use Rattle.hop_laws.specs.Taking.{taken_from}
 
 -- the endpoint of the client; before it come those of the far end, of the hop and of the relay
@@ -80,3 +83,39 @@ passes_back = refl
 -- what its hop took is none of its endpoint's
 takes_by_hop : taken_from with_client second far ≡ note 251 [] ∷ []
 takes_by_hop = refl
+
+-- IT RELAYS: each of its steps is the one that was asked for, and the others are no steps of its own
+asked : {P : List Step} {s : Step} → has_ended P 2 ≡ false
+    → named s.head ≡ granted P 2 (next_ask part 2 P) → is_waits s.head ≡ false
+    → is_own s 2 ≡ true → IsAskedStep part 2 P s
+asked {P} {s} running names found own = record {
+  running = running;
+  names = names;
+  once = λ waits. absurd (true≢false (sym waits ∙ found));
+}
+
+of_another : {P : List Step} {s : Step} → is_own s 2 ≡ false → is_own s 2 ≡ true
+    → IsAskedStep part 2 P s
+of_another {P} {s} other own = absurd (true≢false (sym own ∙ other))
+
+infixl 1 ◌▸◌
+◌▸◌ : {P : List Step} {s : Step} → Follows part 2 P → (is_own s 2 ≡ true → IsAskedStep part 2 P s)
+    → Follows part 2 (s ∷ P)
+before ▸ step = (before, step)
+
+follows_without : Follows part 2 without_client
+follows_without =
+    tt ▸ of_another refl ▸ asked refl refl refl ▸ asked refl refl refl ▸ asked refl refl refl
+    ▸ asked refl refl refl ▸ asked refl refl refl ▸ asked refl refl refl ▸ of_another refl
+    ▸ of_another refl ▸ asked refl refl refl
+
+follows_with : Follows part 2 with_client
+follows_with =
+    follows_without ▸ of_another refl ▸ asked refl refl refl ▸ asked refl refl refl
+    ▸ asked refl refl refl ▸ of_another refl ▸ asked refl refl refl ▸ asked refl refl refl
+
+abbrev relay : Relaying
+relay = record { part = part; actor = 2; endpoint = third; far = far; client = client }
+
+relays : IsRelaying with_client relay
+relays = record { follows = follows_with; opened = refl; serves = refl }
