@@ -1,0 +1,15 @@
+mod Fronts
+mod Peers
+mod Chains
+mod Known
+mod Origins
+mod Owners
+mod Arrivals
+mod Table
+mod Still
+mod Heads
+mod Quiet
+mod Takings
+mod Relays
+mod Hops
+mod Worked
