@@ -1,130 +1,103 @@
 -- What the tournament says of the slots.
-use Rattle.std.proofs.Common.{◌≡◌, ◌≢◌, inl, inr, ℕ, zero, suc, ◌+◌, ◌*◌, ◌/◌, ◌%◌, ◌<◌, ◌≤◌, true}
+use Rattle.std.proofs.Common.{◌≡◌, ◌≢◌, inl, inr, ℕ, zero, suc, ◌+◌, ◌-◌, ◌*◌, ◌/◌, ◌<◌, ◌≤◌, true}
 use Rattle.std.proofs.Common.{true≢false, List, length, refl, ap, sym, subst, ◌∙◌, arith, Option}
-use Rattle.std.proofs.Common.{Some, None, if◌then◌else◌, get_or-set_other, slice_set}
+use Rattle.std.proofs.Common.{Some, None, get_or-set_other, slice_set}
 use Rattle.std.proofs.lemmas.Bool.{cases_eq, cases_lt}
 use Rattle.std.proofs.lemmas.Bool.Decides.{nat_tests}
 use Rattle.deadlines.specs.declared.deadline.Deadline.{Deadline}
+use Rattle.deadlines.specs.declared.tournament.Leader.{Leader}
 use Rattle.deadlines.specs.Slots.{deadline_at, IsEarliest, IsNoLater}
-use Rattle.deadlines.specs.Tournament.{comes_first, leader_at, sooner, AreLed, IsStale}
-use Rattle.deadlines.specs.Tournament.{IsTournament}
-use Rattle.deadlines.proofs.Playing.{AreLedBut, IsAtOrAbove}
-use Rattle.deadlines.proofs.Playing.{above_both, above_one, first_chain, first_itself, leader_leaf}
-use Rattle.deadlines.proofs.Playing.{sooner_is, sooner_left, sooner_right}
+use Rattle.deadlines.specs.Tournament.{comes_first, earliest_from, lead_of, leader_at, AreLed}
+use Rattle.deadlines.specs.Tournament.{AreLedBut, IsAbove, IsTournament}
+use Rattle.deadlines.proofs.Playing.{earliest_before, earliest_is, earliest_same, first_chain}
+use Rattle.deadlines.proofs.Playing.{first_itself, leader_inner, leader_leaf}
 
--- a slot leads at its leaf alone and above it: `more` bounds how far the node is from the last
-leads_above : (slots : List (Option Deadline)) (tree : List ℕ) (s : ℕ) → IsStale slots tree s
-    → (more i : ℕ) → 2 * length tree ≤ i + more → 0 < i → i < 2 * length tree
-    → leader_at tree i ≡ s → IsAtOrAbove i (length tree + s)
-leads_above slots tree s stale zero i far positive below is = absurd (omega arith)
-leads_above slots tree s stale (suc more) i far positive below is =
-    elim (cases_lt i (length tree)) [
-      | inl inner ↦ elim (stale.below i positive inner is) [
-        | inl left ↦
-            let half : 2 * i / 2 ≡ i = omega arith in
-            subst (λ n. IsAtOrAbove n (length tree + s)) half
-            (above_one (2 * i) (length tree + s)
-            (leads_above slots tree s stale more (2 * i) (omega arith) (omega arith) (omega arith)
-            left))
-        | inr right ↦
-            let half : (2 * i + 1) / 2 ≡ i = omega arith in
-            subst (λ n. IsAtOrAbove n (length tree + s)) half
-            (above_one (2 * i + 1) (length tree + s)
-            (leads_above slots tree s stale more (2 * i + 1) (omega arith) (omega arith)
-            (omega arith) right))
-      ]
-      | inr leaf ↦
-          let slot = leader_leaf tree i leaf in
-          record { steps = 0; is = omega (arith, slot, is, leaf) }
+module _ (slots : List (Option Deadline)) (tree : List (Option Leader)) (led : AreLed slots tree)
+  where
+    -- the first leader comes before all: `most` bounds the node
+    leads_first : (most i : ℕ) → i ≤ most → i ≤ 8 * length tree
+        → comes_first (leader_at slots tree 0) (leader_at slots tree i) ≡ true
+    leads_first zero i low inside =
+        let none : i ≡ 0 = omega (arith, low) in
+        subst (λ n. comes_first (leader_at slots tree 0) (leader_at slots tree n) ≡ true) (sym none)
+        (first_itself (leader_at slots tree 0))
+    leads_first (suc most) i low inside = elim (cases_eq i 0) [
+      | inl none ↦
+          subst (λ n. comes_first (leader_at slots tree 0) (leader_at slots tree n) ≡ true)
+          (sym none) (first_itself (leader_at slots tree 0))
+      | inr some ↦
+          let up = (i - 1) / 8 in
+          let place = i - 1 - 8 * ((i - 1) / 8) in
+          let less : place < 8 = omega (arith, some) in
+          let at : 8 * up + 1 + place ≡ i = omega (arith, some) in
+          let higher = leads_first most up (omega (arith, low, some)) (omega (arith, inside, some)) in
+          let is = led up (omega (arith, inside, some)) in
+          first_chain (leader_at slots tree 0) (earliest_from slots tree (8 * up + 1) 8)
+          (leader_at slots tree i)
+          (subst (λ l. comes_first (leader_at slots tree 0) l ≡ true) is higher)
+          (subst (λ n. comes_first (earliest_from slots tree (8 * up + 1) 8)
+          (leader_at slots tree n) ≡ true) at
+          (earliest_before slots tree (8 * up + 1) 8 place less))
     ]
 
--- so only those above its leaf are to play
-pub to_play : (slots : List (Option Deadline)) (tree : List ℕ) (s : ℕ) → IsStale slots tree s
-    → AreLedBut slots tree ((length tree + s) / 2)
-to_play slots tree s stale i positive below off =
-    stale.apart i positive below
-    (λ led. elim (stale.below i positive below led) [ inl left ↦ by_left left | inr right ↦ by_right right ])
-    by_left by_right
-  where
-    by_left : leader_at tree (2 * i) ≡ s → ⊥
-    by_left left =
-        let half : 2 * i / 2 ≡ i = omega arith in
-        off (subst (λ n. IsAtOrAbove n ((length tree + s) / 2)) half
-        (above_both (2 * i) (length tree + s)
-        (leads_above slots tree s stale (2 * length tree) (2 * i) (omega arith) (omega arith)
-        (omega arith) left)))
+    at_leaf : (s : ℕ) (o : Option Deadline) (l : Leader) → deadline_at slots s ≡ o
+        → lead_of s o ≡ Some l → deadline_at slots l.slot ≡ Some l.deadline
+    at_leaf s None l has is = let none : None ≡ Some l = is in cc
+    at_leaf s (Some d) l has is =
+        let lead : Leader = record { slot = s; deadline = d } in
+        let found : Some lead ≡ Some l = is in
+        let same : lead ≡ l = cc in
+        subst (λ (k : Leader). deadline_at slots k.slot ≡ Some k.deadline) same has
 
-    by_right : leader_at tree (2 * i + 1) ≡ s → ⊥
-    by_right right =
-        let half : (2 * i + 1) / 2 ≡ i = omega arith in
-        off (subst (λ n. IsAtOrAbove n ((length tree + s) / 2)) half
-        (above_both (2 * i + 1) (length tree + s)
-        (leads_above slots tree s stale (2 * length tree) (2 * i + 1) (omega arith) (omega arith)
-        (omega arith) right)))
+    leaf_really : (i : ℕ) (l : Leader) → length tree ≤ i → leader_at slots tree i ≡ Some l
+        → deadline_at slots l.slot ≡ Some l.deadline
+    leaf_really i l leaf is =
+        at_leaf (i - length tree) (deadline_at slots (i - length tree)) l refl
+        (sym (leader_leaf slots tree i leaf) ∙ is)
 
-module _ (slots : List (Option Deadline)) (tree : List ℕ) (led : AreLed slots tree) where
-  -- the first leader comes before all: `most` bounds the node
-  pub leads_first : (most i : ℕ) → i ≤ most → 0 < i → i < 2 * length tree
-      → comes_first (deadline_at slots (leader_at tree 1)) (deadline_at slots (leader_at tree i))
-      ≡ true
-  leads_first zero i low positive below = absurd (omega arith)
-  leads_first (suc most) i low positive below = elim (cases_eq i 1) [
-    | inl e ↦
-        subst (λ n. comes_first (deadline_at slots (leader_at tree 1))
-        (deadline_at slots (leader_at tree n)) ≡ true) (sym e)
-        (first_itself (deadline_at slots (leader_at tree 1)))
-    | inr higher ↦
-        let up = leads_first most (i / 2) (omega arith) (omega arith) (omega arith) in
-        let is = led (i / 2) (omega arith) (omega arith) in
-        let left = leader_at tree (2 * (i / 2)) in
-        let right = leader_at tree (2 * (i / 2) + 1) in
-        let upper : comes_first (deadline_at slots (leader_at tree 1))
-        (deadline_at slots (sooner slots left right)) ≡ true =
-        subst (λ l. comes_first (deadline_at slots (leader_at tree 1)) (deadline_at slots l)
-        ≡ true) is up in
-        elim (cases_eq (i % 2) 0) [
-          | inl even ↦
-              let here : 2 * (i / 2) ≡ i = omega arith in
-              subst (λ n. comes_first (deadline_at slots (leader_at tree 1))
-              (deadline_at slots (leader_at tree n)) ≡ true) here
-              (first_chain (deadline_at slots (leader_at tree 1))
-              (deadline_at slots (sooner slots left right)) (deadline_at slots left) upper
-              (sooner_left slots left right))
-          | inr odd ↦
-              let here : 2 * (i / 2) + 1 ≡ i = omega arith in
-              subst (λ n. comes_first (deadline_at slots (leader_at tree 1))
-              (deadline_at slots (leader_at tree n)) ≡ true) here
-              (first_chain (deadline_at slots (leader_at tree 1))
-              (deadline_at slots (sooner slots left right)) (deadline_at slots right) upper
-              (sooner_right slots left right))
-        ]
+    -- who leads has this deadline: `more` bounds how far the node is from the last
+    leads_really : (more i : ℕ) (l : Leader) → 8 * length tree ≤ i + more
+        → leader_at slots tree i ≡ Some l → deadline_at slots l.slot ≡ Some l.deadline
+    leads_really zero i l far is = elim (cases_lt i (length tree)) [
+      | inl inner ↦ absurd (omega (arith, far, inner))
+      | inr leaf ↦ leaf_really i l leaf is
+    ]
+    leads_really (suc more) i l far is = elim (cases_lt i (length tree)) [
+      | inl inner ↦
+          let one = earliest_is slots tree (8 * i + 1) 8 l (sym (led i inner) ∙ is) in
+          leads_really more (8 * i + 1 + one.place) l (omega (arith, far)) one.is
+      | inr leaf ↦ leaf_really i l leaf is
+    ]
+
+-- A SLOT HAS ANOTHER DEADLINE, or none: only the node above its leaf is to play
+module _ (old new : List (Option Deadline)) (tree : List (Option Leader))
+    (is : IsTournament old tree) (s : ℕ)
+    (others : (other : ℕ) → other ≢ s → deadline_at new other ≡ deadline_at old other) where
+  same_leader : (j : ℕ) → j ≢ length tree + s → leader_at new tree j ≡ leader_at old tree j
+  same_leader j off = elim (cases_lt j (length tree)) [
+    | inl inner ↦ leader_inner new tree j inner ∙ sym (leader_inner old tree j inner)
+    | inr leaf ↦
+        leader_leaf new tree j leaf
+        ∙ ap (lead_of (j - length tree))
+        (others (j - length tree) (λ e. off (omega (arith, e, leaf))))
+        ∙ sym (leader_leaf old tree j leaf)
   ]
 
--- A SLOT HAS ANOTHER DEADLINE, or none: only those above its leaf are to play
-module _ (old new : List (Option Deadline)) (tree : List ℕ) (is : IsTournament old tree) (s : ℕ)
-    (others : (other : ℕ) → other ≢ s → deadline_at new other ≡ deadline_at old other) where
-  same_sooner : (a b : ℕ) → a ≢ s → b ≢ s → sooner old a b ≡ sooner new a b
-  same_sooner a b one two =
-      ap (λ o. if comes_first o (deadline_at old b) then a else b) (sym (others a one))
-      ∙ ap (λ o. if comes_first (deadline_at new a) o then a else b) (sym (others b two))
+  pub stale : AreLedBut new tree (length tree + s)
+  stale i below off =
+      same_leader i (λ e. omega (arith, e, below))
+      ∙ is.led i below
+      ∙ earliest_same old new tree tree (8 * i + 1) 8
+      (λ p less. sym (same_leader (8 * i + 1 + p)
+      (λ e. off (record { low = omega (arith, e, less); high = omega (arith, e, less) }))))
 
-  pub stale : IsStale new tree s
-  stale = record {
-    apart = λ i positive below itself left right.
-        is.led i positive below
-        ∙ same_sooner (leader_at tree (2 * i)) (leader_at tree (2 * i + 1)) left right;
-    below = λ i positive below led.
-        elim (sooner_is old (leader_at tree (2 * i)) (leader_at tree (2 * i + 1))) [
-          | inl left ↦ inl (sym left ∙ sym (is.led i positive below) ∙ led)
-          | inr right ↦ inr (sym right ∙ sym (is.led i positive below) ∙ led)
-        ];
-  }
-
-  pub put_kept : (after : List ℕ) → s < length tree → length after ≡ length tree
-      → AreLed new after → IsTournament new after
+  pub put_kept : (after : List (Option Leader)) → s ≤ 7 * length tree
+      → length after ≡ length tree → AreLed new after → IsTournament new after
   put_kept after inside long led = record {
     led = led;
-    outside = λ other behind. others other (omega arith) ∙ is.outside other (omega arith);
+    outside = λ other behind.
+        others other (λ e. omega (arith, e, inside, behind, long))
+        ∙ is.outside other (omega (arith, behind, long));
     leaves = let most = is.leaves in omega (arith, long, most);
   }
 
@@ -133,52 +106,55 @@ pub set_other : (slots : List (Option Deadline)) (s : ℕ) (o : Option Deadline)
 set_other slots s o other differs = get_or-set_other slots s other o None differs
 
 -- a slot with a deadline has a leaf
-pub has_leaf : (slots : List (Option Deadline)) (tree : List ℕ) (s : ℕ) (d : Deadline)
-    → IsTournament slots tree → deadline_at slots s ≡ Some d → s < length tree
-has_leaf slots tree s d is has = elim (cases_lt s (length tree)) [
-  | inl inside ↦ inside
-  | inr behind ↦ let gone : Some d ≡ None = sym has ∙ is.outside s behind in cc
+pub has_leaf : (slots : List (Option Deadline)) (tree : List (Option Leader)) (s : ℕ) (d : Deadline)
+    → IsTournament slots tree → deadline_at slots s ≡ Some d → s ≤ 7 * length tree
+has_leaf slots tree s d is has = elim (cases_lt (7 * length tree) s) [
+  | inl behind ↦ let gone : Some d ≡ None = sym has ∙ is.outside s behind in cc
+  | inr inside ↦ inside
 ]
 
 -- THE FIRST ONE
-module _ (slots : List (Option Deadline)) (tree : List ℕ) (is : IsTournament slots tree) where
-  before_all : (s : ℕ) → s < length tree
-      → comes_first (deadline_at slots (leader_at tree 1)) (deadline_at slots s) ≡ true
+module _ (slots : List (Option Deadline)) (tree : List (Option Leader))
+    (is : IsTournament slots tree) where
+  before_all : (s : ℕ) → s ≤ 7 * length tree
+      → comes_first (leader_at slots tree 0) (lead_of s (deadline_at slots s)) ≡ true
   before_all s inside =
-      let leaf : leader_at tree (length tree + s) ≡ s =
-      let at = leader_leaf tree (length tree + s) (omega arith) in omega (arith, at) in
-      subst (λ k. comes_first (deadline_at slots (leader_at tree 1)) (deadline_at slots k) ≡ true)
-      leaf
+      let slot : length tree + s - length tree ≡ s = omega arith in
+      let leaf : leader_at slots tree (length tree + s) ≡ lead_of s (deadline_at slots s) =
+      leader_leaf slots tree (length tree + s) (omega arith)
+      ∙ ap (λ k. lead_of k (deadline_at slots k)) slot in
+      subst (λ l. comes_first (leader_at slots tree 0) l ≡ true) leaf
       (leads_first slots tree is.led (length tree + s) (length tree + s) (omega arith)
-      (omega arith) (omega arith))
+      (omega (arith, inside)))
 
-  none_behind : (o : Option Deadline) → comes_first None o ≡ true → o ≡ None
-  none_behind None first = refl
-  none_behind (Some d) first = absurd (true≢false (sym first))
+  none_behind : (s : ℕ) (o : Option Deadline) → comes_first None (lead_of s o) ≡ true → o ≡ None
+  none_behind s None first = refl
+  none_behind s (Some d) first = absurd (true≢false (sym first))
 
-  pub none_at_all : None ≡ deadline_at slots (leader_at tree 1) → (s : ℕ)
-      → deadline_at slots s ≡ None
-  none_at_all none s = elim (cases_lt s (length tree)) [
-    | inl inside ↦
-        none_behind (deadline_at slots s)
-        (subst (λ o. comes_first o (deadline_at slots s) ≡ true) (sym none) (before_all s inside))
-    | inr behind ↦ is.outside s behind
+  pub none_at_all : None ≡ leader_at slots tree 0 → (s : ℕ) → deadline_at slots s ≡ None
+  none_at_all none s = elim (cases_lt (7 * length tree) s) [
+    | inl behind ↦ is.outside s behind
+    | inr inside ↦
+        none_behind s (deadline_at slots s)
+        (subst (λ l. comes_first l (lead_of s (deadline_at slots s)) ≡ true) (sym none)
+        (before_all s inside))
   ]
 
-  no_later : (a b : Deadline) → comes_first (Some a) (Some b) ≡ true → IsNoLater a b
+  no_later : (a b : Leader) → comes_first (Some a) (Some b) ≡ true
+      → IsNoLater a.deadline b.deadline
   no_later a b first = record {
     due = grind (arith, nat_tests);
     ticket = λ same. grind (arith, nat_tests);
   }
 
-  pub first_is_earliest : (d : Deadline) → Some d ≡ deadline_at slots (leader_at tree 1)
-      → IsEarliest slots (leader_at tree 1) d.due
-  first_is_earliest d has = record {
-    ticket = d.ticket;
-    here = sym has;
+  pub first_is_earliest : (l : Leader) → Some l ≡ leader_at slots tree 0
+      → IsEarliest slots l.slot l.deadline.due
+  first_is_earliest l has = record {
+    ticket = l.deadline.ticket;
+    here = leads_really slots tree is.led (8 * length tree) 0 l (omega arith) (sym has);
     least = λ other e at.
-        no_later d e
-        (subst (λ o. comes_first o (Some e) ≡ true) (sym has)
-        (subst (λ o. comes_first (deadline_at slots (leader_at tree 1)) o ≡ true) at
+        no_later l (record { slot = other; deadline = e })
+        (subst (λ o. comes_first o (Some (record { slot = other; deadline = e })) ≡ true) (sym has)
+        (subst (λ o. comes_first (leader_at slots tree 0) (lead_of other o) ≡ true) at
         (before_all other (has_leaf slots tree other e is at))));
   }

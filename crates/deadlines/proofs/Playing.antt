@@ -1,148 +1,170 @@
 -- The matches of a tournament.
-use Rattle.std.proofs.Common.{◌≡◌, ◌≢◌, ◌⊎◌, inl, inr, ℕ, zero, suc, ◌+◌, ◌-◌, ◌*◌, ◌/◌, ◌<◌, ◌≤◌}
-use Rattle.std.proofs.Common.{true, false, true≢false, List, length, set, length-set, refl, ap, sym}
+use Rattle.std.proofs.Common.{◌≡◌, ◌≢◌, ◌⊎◌, inl, inr, ℕ, zero, suc, ◌+◌, ◌-◌, ◌*◌, ◌<◌, ◌≤◌}
+use Rattle.std.proofs.Common.{true, false, true≢false, List, [], ◌∷◌, length, set, length-set, refl, ap, sym}
 use Rattle.std.proofs.Common.{subst, ◌∙◌, arith, Option, Some, None, nat_lt}
 use Rattle.std.proofs.Common.{get_or-set_same, get_or-set_other, slice_index_or}
 use Rattle.std.proofs.lemmas.Bool.{cases_Bool, cases_eq, cases_lt}
 use Rattle.std.proofs.lemmas.Bool.Decides.{nat_tests}
 use Rattle.deadlines.specs.declared.deadline.Deadline.{Deadline}
+use Rattle.deadlines.specs.declared.tournament.Leader.{Leader}
 use Rattle.deadlines.specs.Slots.{deadline_at}
-use Rattle.deadlines.specs.Tournament.{comes_first, leader_at, sooner, AreLed, IsPlayed}
+use Rattle.deadlines.specs.Tournament.{comes_first, earliest_from, lead_of, leader_at, sooner}
+use Rattle.deadlines.specs.Tournament.{AreLed, AreLedBut, IsAbove, IsPlayed}
 
--- WHICH DEADLINE COMES FIRST
-pub first_itself : (a : Option Deadline) → comes_first a a ≡ true
+-- WHO COMES FIRST
+pub first_itself : (a : Option Leader) → comes_first a a ≡ true
 first_itself None = refl
 first_itself (Some a) = grind (arith, nat_tests)
 
-pub first_chain : (a b c : Option Deadline) → comes_first a b ≡ true → comes_first b c ≡ true
+pub first_chain : (a b c : Option Leader) → comes_first a b ≡ true → comes_first b c ≡ true
     → comes_first a c ≡ true
 first_chain a b None one two = refl
 first_chain a None (Some c) one two = absurd (true≢false (sym two))
 first_chain None (Some b) (Some c) one two = absurd (true≢false (sym one))
 first_chain (Some a) (Some b) (Some c) one two = grind (arith, nat_tests)
 
-pub first_other : (a b : Option Deadline) → comes_first a b ≡ false → comes_first b a ≡ true
+first_other : (a b : Option Leader) → comes_first a b ≡ false → comes_first b a ≡ true
 first_other a None not = absurd (true≢false not)
 first_other None (Some b) not = refl
 first_other (Some a) (Some b) not = grind (arith, nat_tests)
 
-module _ (slots : List (Option Deadline)) where
-  -- the sooner one comes before both
-  pub sooner_left : (a b : ℕ)
-      → comes_first (deadline_at slots (sooner slots a b)) (deadline_at slots a) ≡ true
-  sooner_left a b = elim (cases_Bool (comes_first (deadline_at slots a) (deadline_at slots b))) [
-    | inl is ↦ rw is (first_itself (deadline_at slots a))
-    | inr not ↦ rw not (first_other (deadline_at slots a) (deadline_at slots b) not)
-  ]
+-- the sooner one comes before both
+sooner_left : (a b : Option Leader) → comes_first (sooner a b) a ≡ true
+sooner_left a b = elim (cases_Bool (comes_first a b)) [
+  | inl is ↦ rw is (first_itself a)
+  | inr not ↦ rw not (first_other a b not)
+]
 
-  pub sooner_right : (a b : ℕ)
-      → comes_first (deadline_at slots (sooner slots a b)) (deadline_at slots b) ≡ true
-  sooner_right a b = elim (cases_Bool (comes_first (deadline_at slots a) (deadline_at slots b))) [
-    | inl is ↦ rw is is
-    | inr not ↦ rw not (first_itself (deadline_at slots b))
+sooner_right : (a b : Option Leader) → comes_first (sooner a b) b ≡ true
+sooner_right a b = elim (cases_Bool (comes_first a b)) [
+  | inl is ↦ rw is is
+  | inr not ↦ rw not (first_itself b)
+]
+
+-- and is one of them
+sooner_is : (a b : Option Leader) → (sooner a b ≡ a) ⊎ (sooner a b ≡ b)
+sooner_is a b = elim (cases_Bool (comes_first a b)) [
+  | inl is ↦ rw is (inl refl)
+  | inr not ↦ rw not (inr refl)
+]
+
+-- NODES
+pub leader_leaf : (slots : List (Option Deadline)) (tree : List (Option Leader)) (i : ℕ)
+    → length tree ≤ i
+    → leader_at slots tree i ≡ lead_of (i - length tree) (deadline_at slots (i - length tree))
+leader_leaf slots tree i leaf =
+    let behind : nat_lt i (length tree) ≡ false = grind (arith, nat_tests) in rw behind refl
+
+pub leader_inner : (slots : List (Option Deadline)) (tree : List (Option Leader)) (i : ℕ)
+    → i < length tree → leader_at slots tree i ≡ slice_index_or tree i None
+leader_inner slots tree i inner =
+    let inside : nat_lt i (length tree) ≡ true = grind (arith, nat_tests) in rw inside refl
+
+-- what is read at a node leads there
+pub shown : (slots : List (Option Deadline)) (tree : List (Option Leader)) (i : ℕ)
+    (x : Option Leader) → i < length tree → x ≡ slice_index_or tree i x → leader_at slots tree i ≡ x
+shown slots tree i x inside is = leader_inner slots tree i inside ∙ default tree i inside ∙ sym is
+  where
+    default : (ps : List (Option Leader)) (k : ℕ) → k < length ps
+        → slice_index_or ps k None ≡ slice_index_or ps k x
+    default [] k within = absurd (omega (arith, within))
+    default (p ∷ ps) zero within = refl
+    default (p ∷ ps) (suc k) within = default ps k (omega (arith, within))
+
+-- those that lead alike have one earliest
+pub earliest_same : (old new : List (Option Deadline)) (tree after : List (Option Leader))
+    (first more : ℕ)
+    → ((p : ℕ) → p < more → leader_at old tree (first + p) ≡ leader_at new after (first + p))
+    → earliest_from old tree first more ≡ earliest_from new after first more
+earliest_same old new tree after first zero same = refl
+earliest_same old new tree after first (suc more) same =
+    ap (λ l. sooner l (leader_at old tree (first + more)))
+    (earliest_same old new tree after first more (λ p less. same p (omega (arith, less))))
+    ∙ ap (λ l. sooner (earliest_from new after first more) l) (same more (omega arith))
+
+module _ (slots : List (Option Deadline)) (tree : List (Option Leader)) (first : ℕ) where
+  -- the earliest comes before each
+  pub earliest_before : (more p : ℕ) → p < more
+      → comes_first (earliest_from slots tree first more) (leader_at slots tree (first + p)) ≡ true
+  earliest_before zero p less = absurd (omega (arith, less))
+  earliest_before (suc more) p less = elim (cases_eq p more) [
+    | inl same ↦
+        subst (λ q. comes_first (earliest_from slots tree first (suc more))
+        (leader_at slots tree (first + q)) ≡ true) (sym same)
+        (sooner_right (earliest_from slots tree first more) (leader_at slots tree (first + more)))
+    | inr off ↦
+        first_chain (earliest_from slots tree first (suc more))
+        (earliest_from slots tree first more) (leader_at slots tree (first + p))
+        (sooner_left (earliest_from slots tree first more) (leader_at slots tree (first + more)))
+        (earliest_before more p (omega (arith, less, off)))
   ]
 
   -- and is one of them
-  pub sooner_is : (a b : ℕ) → (sooner slots a b ≡ a) ⊎ (sooner slots a b ≡ b)
-  sooner_is a b = elim (cases_Bool (comes_first (deadline_at slots a) (deadline_at slots b))) [
-    | inl is ↦ rw is (inl refl)
-    | inr not ↦ rw not (inr refl)
-  ]
+  pub record IsOneFrom (more : ℕ) (l : Option Leader) : Type 0 where
+    pub place : ℕ
+    pub within : place < more
+    pub is : leader_at slots tree (first + place) ≡ l
 
--- NODES
--- the node so many steps above another
-abbrev pub node_above : ℕ → ℕ → ℕ
-node_above zero i = i
-node_above (suc steps) i = node_above steps (i / 2)
-
--- a node is another one, or stands above it
-pub record IsAtOrAbove (i other : ℕ) : Type 0 where
-  pub steps : ℕ
-  pub is : node_above steps other ≡ i
-
--- each leader is the earlier of the two below it, but perhaps this one and those above it
-abbrev pub AreLedBut : List (Option Deadline) → List ℕ → ℕ → Type 0
-AreLedBut slots tree at = (i : ℕ) → 0 < i → i < length tree → (IsAtOrAbove i at → ⊥)
-    → IsPlayed slots tree i
-
-pub leader_leaf : (tree : List ℕ) (i : ℕ) → length tree ≤ i → leader_at tree i ≡ i - length tree
-leader_leaf tree i leaf =
-    let behind : nat_lt i (length tree) ≡ false = grind (arith, nat_tests) in rw behind refl
-
-pub leader_inner : (tree : List ℕ) (i : ℕ) → i < length tree
-    → leader_at tree i ≡ slice_index_or tree i 0
-leader_inner tree i inner =
-    let inside : nat_lt i (length tree) ≡ true = grind (arith, nat_tests) in rw inside refl
-
-pub halves : (k j : ℕ) → node_above k (j / 2) ≡ node_above k j / 2
-halves zero j = refl
-halves (suc k) j = halves k (j / 2)
-
--- above a node stands what is above the one below it
-pub above_both : (c j : ℕ) → IsAtOrAbove c j → IsAtOrAbove (c / 2) (j / 2)
-above_both c j is = record {
-  steps = is.steps;
-  is = halves is.steps j ∙ ap (λ n. n / 2) is.is;
-}
-
-pub above_one : (c j : ℕ) → IsAtOrAbove c j → IsAtOrAbove (c / 2) j
-above_one c j is = record {
-  steps = suc is.steps;
-  is = halves is.steps j ∙ ap (λ n. n / 2) is.is;
-}
-
-pub one_step : (i j k : ℕ) → node_above k j ≡ i → i ≢ j → IsAtOrAbove i (j / 2)
-one_step i j zero is differs = absurd (differs (sym is))
-one_step i j (suc k) is differs = record { steps = k; is = is }
+  pub earliest_is : (more : ℕ) (l : Leader) → earliest_from slots tree first more ≡ Some l
+      → IsOneFrom more (Some l)
+  earliest_is zero l is = let none : None ≡ Some l = is in cc
+  earliest_is (suc more) l is =
+      elim (sooner_is (earliest_from slots tree first more) (leader_at slots tree (first + more))) [
+        | inl left ↦
+            let before = earliest_is more l (sym left ∙ is) in
+            record {
+              place = before.place;
+              within = let less = before.within in omega (arith, less);
+              is = before.is;
+            }
+        | inr right ↦ record { place = more; within = omega arith; is = sym right ∙ is }
+      ]
 
 -- A MATCH IS PLAYED
-module _ (slots : List (Option Deadline)) (tree : List ℕ) (node best : ℕ)
-    (is : best ≡ sooner slots (leader_at tree (2 * node)) (leader_at tree (2 * node + 1)))
-    (above : 0 < node) (inside : node < length tree) where
-  pub stays : (i : ℕ) → i ≢ node → leader_at (set tree node best) i ≡ leader_at tree i
+module _ (slots : List (Option Deadline)) (tree : List (Option Leader)) (node : ℕ)
+    (best : Option Leader) (is : best ≡ earliest_from slots tree (8 * node + 1) 8)
+    (inside : node < length tree) where
+  stays : (i : ℕ) → i ≢ node → leader_at slots (set tree node best) i ≡ leader_at slots tree i
   stays i differs = elim (cases_lt i (length tree)) [
     | inl inner ↦
-        leader_inner (set tree node best) i
+        leader_inner slots (set tree node best) i
         (subst (λ n. i < n) (sym (length-set tree node best)) inner)
-        ∙ get_or-set_other tree node i best 0 differs ∙ sym (leader_inner tree i inner)
+        ∙ get_or-set_other tree node i best None differs ∙ sym (leader_inner slots tree i inner)
     | inr leaf ↦
-        leader_leaf (set tree node best) i
+        leader_leaf slots (set tree node best) i
         (subst (λ n. n ≤ i) (sym (length-set tree node best)) leaf)
-        ∙ ap (λ n. i - n) (length-set tree node best) ∙ sym (leader_leaf tree i leaf)
+        ∙ ap (λ n. lead_of (i - n) (deadline_at slots (i - n))) (length-set tree node best)
+        ∙ sym (leader_leaf slots tree i leaf)
   ]
 
-  pub here : leader_at (set tree node best) node ≡ best
+  here : leader_at slots (set tree node best) node ≡ best
   here =
-      leader_inner (set tree node best) node
+      leader_inner slots (set tree node best) node
       (subst (λ n. node < n) (sym (length-set tree node best)) inside)
-      ∙ get_or-set_same tree node best 0 inside
+      ∙ get_or-set_same tree node best None inside
 
-  same_below : (i : ℕ) → 2 * i ≢ node → 2 * i + 1 ≢ node
-      → sooner slots (leader_at tree (2 * i)) (leader_at tree (2 * i + 1))
-      ≡ sooner slots (leader_at (set tree node best) (2 * i))
-      (leader_at (set tree node best) (2 * i + 1))
-  same_below i left right =
-      ap (λ l. sooner slots l (leader_at tree (2 * i + 1))) (sym (stays (2 * i) left))
-      ∙ ap (λ l. sooner slots (leader_at (set tree node best) (2 * i)) l)
-      (sym (stays (2 * i + 1) right))
+  same_below : (i : ℕ) → (IsAbove i node → ⊥)
+      → earliest_from slots tree (8 * i + 1) 8
+      ≡ earliest_from slots (set tree node best) (8 * i + 1) 8
+  same_below i off =
+      earliest_same slots slots tree (set tree node best) (8 * i + 1) 8
+      (λ p less. sym (stays (8 * i + 1 + p)
+      (λ e. off (record { low = omega (arith, e, less); high = omega (arith, e, less) }))))
 
   pub played_here : IsPlayed slots (set tree node best) node
-  played_here = here ∙ is ∙ same_below node (omega arith) (omega arith)
-
-  pub played_other : (i : ℕ) → i ≢ node → 2 * i ≢ node → 2 * i + 1 ≢ node
-      → IsPlayed slots tree i → IsPlayed slots (set tree node best) i
-  played_other i differs left right was = stays i differs ∙ was ∙ same_below i left right
+  played_here = here ∙ is ∙ same_below node (λ up. let low = up.low in omega (arith, low))
 
   -- on the way up
-  pub played_up : AreLedBut slots tree node → AreLedBut slots (set tree node best) (node / 2)
-  played_up led i positive below off = elim (cases_eq i node) [
+  pub played_up : (at : ℕ) → IsAbove node at → AreLedBut slots tree at
+      → AreLedBut slots (set tree node best) node
+  played_up at above led i below off = elim (cases_eq i node) [
     | inl e ↦ subst (IsPlayed slots (set tree node best)) (sym e) played_here
     | inr differs ↦
-        played_other i differs
-        (λ left. off (record { steps = 0; is = omega (arith, left) }))
-        (λ right. off (record { steps = 0; is = omega (arith, right) }))
-        (led i positive (subst (λ n. i < n) (length-set tree node best) below)
-        (λ up. off (one_step i node up.steps up.is differs)))
+        stays i differs
+        ∙ led i (subst (λ n. i < n) (length-set tree node best) below)
+        (λ up. let one = up.low in let two = up.high in let three = above.low in
+        let four = above.high in differs (omega (arith, one, two, three, four)))
+        ∙ same_below i off
   ]
 
   -- and from the last one down
@@ -152,16 +174,24 @@ module _ (slots : List (Option Deadline)) (tree : List ℕ) (node best : ℕ)
   played_down led i from below = elim (cases_eq i node) [
     | inl e ↦ subst (IsPlayed slots (set tree node best)) (sym e) played_here
     | inr differs ↦
-        played_other i differs (omega arith) (omega arith)
-        (led i (omega arith) (subst (λ n. i < n) (length-set tree node best) below))
+        stays i differs
+        ∙ led i (omega (arith, from, differs)) (subst (λ n. i < n) (length-set tree node best) below)
+        ∙ same_below i (λ up. let low = up.low in omega (arith, low, from))
+  ]
+
+  -- where the same leads as before, all have played
+  pub stopped : (at : ℕ) → IsAbove node at → AreLedBut slots tree at
+      → leader_at slots tree node ≡ best → AreLed slots tree
+  stopped at above led kept i below = elim (cases_eq i node) [
+    | inl e ↦ subst (IsPlayed slots tree) (sym e) (kept ∙ is)
+    | inr differs ↦
+        led i below
+        (λ up. let one = up.low in let two = up.high in let three = above.low in
+        let four = above.high in differs (omega (arith, one, two, three, four)))
   ]
 
 -- all have played once the way up is at its end
-pub all_played : (slots : List (Option Deadline)) (tree : List ℕ) (at : ℕ) → at ≡ 0
+pub all_played : (slots : List (Option Deadline)) (tree : List (Option Leader)) (at : ℕ) → at ≡ 0
     → AreLedBut slots tree at → AreLed slots tree
-all_played slots tree at done led i positive below =
-    led i positive below (λ up. absurd (omega (arith, positive, none up.steps at done ∙ up.is)))
-  where
-    none : (k j : ℕ) → j ≡ 0 → 0 ≡ node_above k j
-    none zero j is = sym is
-    none (suc k) j is = none k (j / 2) (omega (arith, is))
+all_played slots tree at done led i below =
+    led i below (λ up. let low = up.low in omega (arith, done, low))
