@@ -8,7 +8,7 @@ use Rattle.deadlines.specs.declared.deadline.Deadline.{Deadline}
 use Rattle.deadlines.specs.declared.tournament.Leader.{Leader}
 use Rattle.deadlines.specs.Slots.{deadline_at, IsEarliest, IsNoLater}
 use Rattle.deadlines.specs.Tournament.{comes_first, earliest_from, lead_of, leader_at, AreLed}
-use Rattle.deadlines.specs.Tournament.{AreLedBut, IsAbove, IsTournament}
+use Rattle.deadlines.specs.Tournament.{AreLedBut, IsTournament}
 use Rattle.deadlines.proofs.Playing.{earliest_before, earliest_is, earliest_same, first_chain}
 use Rattle.deadlines.proofs.Playing.{first_itself, leader_inner, leader_leaf}
 

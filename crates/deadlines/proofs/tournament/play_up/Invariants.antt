@@ -1,4 +1,4 @@
-use Rattle.std.proofs.Common.{◌≡◌, ◌+◌, ◌*◌, ◌<◌, ◌≤◌, length}
+use Rattle.std.proofs.Common.{◌≡◌, ◌*◌, ◌<◌, ◌≤◌, length}
 use Rattle.deadlines.specs.Tournament.{slots_most, AreLedBut}
 use Rattle.deadlines.proofs.tournament.play_up.Given as goal
 
