@@ -8,9 +8,9 @@ ghost use Rattle.linx_timers.specs.Entries.{at_slot, has_reference, is_of, last_
 ghost use Rattle.linx_timers.specs.Entries.{entry_at, listed};
 ghost use Rattle.linx_timers.specs.Entries.{IsFound, IsFoundOf};
 
-use crate::entry::{Entry, Name};
+use crate::entry::Entry;
+use crate::names::Names;
 use linx_base::NoMemory;
-use sorted_set::SortedSet;
 use std::alloc::Global;
 use std::marker::Model;
 use std::mem;
@@ -37,7 +37,7 @@ enum Told {
 #[derive(Drop)]
 pub(crate) struct Entries {
     places: Vec<Option<Entry>>,
-    names: SortedSet<Name>,
+    names: Names,
     told: Snapshot<Told>,
 }
 
@@ -50,7 +50,7 @@ impl Model for Entries {
 
     ghost view = { λ e. listed e.told.value };
 
-    ghost invariant = { λ e. IsStored e.places.items e.names (listed e.told.value) };
+    ghost invariant = { λ e. IsStored e.places.items [] (listed e.told.value) };
 }
 
 /// No entries.
@@ -93,7 +93,7 @@ impl Entries {
     {
         Entries {
             places: Vec::new(alloc),
-            names: SortedSet::new(alloc),
+            names: Names::new(alloc),
             told: none(),
         }
     }
@@ -141,37 +141,14 @@ impl Entries {
         ensures found { IfSome result (IsFound client reference self.now) }
         ensures none { IfNone result (first_match (has_reference client reference) self.now ≡ None) }
     {
-        let least = Name {
-            client,
-            slot: 0,
-            reference,
-            ticket: 0,
-        };
-        let name = self.names.nth_from(&least, 0)?;
-        if name.client != client {
-            return None;
-        }
-        if name.reference != reference {
-            return None;
-        }
-        Some(name.slot)
+        self.names.find(client, reference)
     }
 
     /// The slot of an entry of a client.
-    pub(crate) fn find_of(&self, client: u32) -> Option<u32>
-        ensures found { IfSome result (IsFoundOf client self.now) }
-        ensures none { IfNone result (first_match (is_of client) self.now ≡ None) }
+    pub(crate) fn find_of(&mut self, client: u32) -> Option<u32>
+        ensures found { IfSome result (IsFoundOf client self.old) }
+        ensures none { IfNone result (first_match (is_of client) self.old ≡ None) }
     {
-        let least = Name {
-            client,
-            slot: 0,
-            reference: u64::MAX,
-            ticket: 0,
-        };
-        let name = self.names.nth_from(&least, 0)?;
-        if name.client != client {
-            return None;
-        }
-        Some(name.slot)
+        self.names.find_of(client)
     }
 }
